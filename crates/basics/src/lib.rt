@@ -1,0 +1,2 @@
+// What every layer shares: the refusals that calls answer with.
+pub mod refusal;

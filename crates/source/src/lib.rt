@@ -1,0 +1,2 @@
+// Where symbols come from.
+pub mod symbol;
