@@ -1,12 +1,17 @@
 // What is asked of the alias table: define, remove, and look up.
 ghost use mathlib.Core.Path.{_≡_};
-ghost use mathlib.Core.Bool.{true};
-ghost use Prim.Native.Nat.{_<_};
+ghost use mathlib.Core.Bool.{true, false};
+ghost use Prim.Native.Nat.{_+_, _-_, _<_};
 ghost use lib.ListN.{length, getD};
 ghost use Rattle.basics.specs.Checks.{answer, unless};
+ghost use Rattle.std.specs.Finite.{update};
 ghost use Rattle.std.specs.Options.{Cases as BySome};
-ghost use Rattle.aliases.specs.Rows.{names, nameAt, valueAt, indexOf, isFree};
-ghost use Rattle.aliases.specs.Tables.{rows};
+ghost use Rattle.std.specs.Results.{isOk};
+ghost use Rattle.std.specs.shelf.Text.{sameBytes};
+ghost use Rattle.std.specs.declared.option.Option.the-variants.{Some, None};
+ghost use Rattle.aliases.specs.Aliases.{noAliases, defineCheck, defined, removeCheck, removed};
+ghost use Rattle.aliases.specs.Rows.{nameOf, valueOf, names, nameAt, valueAt, lookUp, indexOf, isFree};
+ghost use Rattle.aliases.specs.Tables.{rows, aliasesOf, lent};
 use basics::refusal::Reason;
 use basics::refusal::Refusal;
 use crate::alias::Alias;
@@ -15,6 +20,12 @@ use crate::table::ALIAS_LIMIT;
 use crate::table::AliasTable;
 
 impl AliasTable {
+    pub fn new() -> AliasTable
+        ensures { λ r. ⌜ aliasesOf r ≡ noAliases ⌝ }
+    {
+        AliasTable { slots: [Alias::new(b"", b""); 8], count: 0 }
+    }
+
     // The name at an index, and no bytes past the aliases.
     pub fn name_at(&self, index: usize) -> &[u8]
         ensures { λ r. ⌜ now r ≡ nameAt (rows (now (self .entry))) index ⌝ }
@@ -40,5 +51,46 @@ impl AliasTable {
             }
         }
         None
+    }
+
+    // The value of the alias of this name.
+    pub fn look_up(&self, name: &[u8]) -> Option<&[u8]>
+        ensures { λ r. ⌜ lent r ≡ aliasesOf (now (self .entry)) .named (now (name .entry)) ⌝ }
+    {
+        match self.find(name) {
+            Some(i) => Some(self.value_at(i)),
+            None => None,
+        }
+    }
+
+    // Puts an alias in the place of one of the same name.
+    fn replace(&mut self, index: usize, alias: Alias)
+        requires { ⌜ index < now self .count ⌝ }
+        requires { ⌜ nameAt (rows (now self)) index ≡ nameOf alias ⌝ }
+        ensures named { λ _. ⌜ lookUp (rows (now (self .exit))) ≡ update sameBytes (lookUp (rows (now (self .entry)))) (nameOf alias) (Some (valueOf alias)) ⌝ }
+        ensures count { λ _. ⌜ now (self .exit) .count ≡ now (self .entry) .count ⌝ }
+    {
+        self.slots[index] = alias;
+    }
+
+    // Puts an alias behind the others, none of which has its name.
+    fn append(&mut self, alias: Alias)
+        requires { ⌜ now self .count < 8 ⌝ }
+        requires { ⌜ isFree (nameOf alias) (names (rows (now self))) ≡ true ⌝ }
+        ensures named { λ _. ⌜ lookUp (rows (now (self .exit))) ≡ update sameBytes (lookUp (rows (now (self .entry)))) (nameOf alias) (Some (valueOf alias)) ⌝ }
+        ensures count { λ _. ⌜ now (self .exit) .count ≡ now (self .entry) .count + 1 ⌝ }
+    {
+        self.slots[self.count] = alias;
+        self.count += 1;
+    }
+
+    // Puts the last alias in the place of the one at the index.
+    fn strike(&mut self, index: usize)
+        requires { ⌜ index < now self .count ⌝ }
+        ensures named { λ _. ⌜ lookUp (rows (now (self .exit))) ≡ update sameBytes (lookUp (rows (now (self .entry)))) (nameAt (rows (now (self .entry))) index) None ⌝ }
+        ensures count { λ _. ⌜ now (self .exit) .count ≡ now (self .entry) .count - 1 ⌝ }
+    {
+        self.slots[index] = self.slots[self.count - 1];
+        self.count -= 1;
     }
 }
