@@ -93,4 +93,39 @@ impl AliasTable {
         self.slots[index] = self.slots[self.count - 1];
         self.count -= 1;
     }
+
+    // Gives a name this value, whether or not it has one. A refused call leaves the table as it was.
+    pub fn define(&mut self, name: &[u8], value: &[u8]) -> Result<(), Refusal>
+        ensures said { λ r. ⌜ r ≡ answer (defineCheck (aliasesOf (now (self .entry))) (now (name .entry)) (now (value .entry))) tt ⌝ }
+        ensures after { λ _. ⌜ aliasesOf (now (self .exit)) ≡ unless (defineCheck (aliasesOf (now (self .entry))) (now (name .entry)) (now (value .entry))) (aliasesOf (now (self .entry))) (defined (aliasesOf (now (self .entry))) (now (name .entry)) (now (value .entry))) ⌝ }
+        ensures kept { λ r. ⌜ (isOk r ≡ false → now (self .exit) ≡ now (self .entry)) ⌝ }
+    {
+        check_spelling(name, value)?;
+        let alias = Alias::new(name, value);
+        match self.find(name) {
+            Some(index) => self.replace(index, alias),
+            None => {
+                if self.count == ALIAS_LIMIT {
+                    return Err(Refusal { reason: Reason::TooManyAliases, place: 0 });
+                }
+                self.append(alias);
+            }
+        }
+        Ok(())
+    }
+
+    // Takes its value from a name. A refused call leaves the table as it was.
+    pub fn remove(&mut self, name: &[u8]) -> Result<(), Refusal>
+        ensures said { λ r. ⌜ r ≡ answer (removeCheck (aliasesOf (now (self .entry))) (now (name .entry))) tt ⌝ }
+        ensures after { λ _. ⌜ aliasesOf (now (self .exit)) ≡ unless (removeCheck (aliasesOf (now (self .entry))) (now (name .entry))) (aliasesOf (now (self .entry))) (removed (aliasesOf (now (self .entry))) (now (name .entry))) ⌝ }
+        ensures kept { λ r. ⌜ (isOk r ≡ false → now (self .exit) ≡ now (self .entry)) ⌝ }
+    {
+        match self.find(name) {
+            Some(index) => {
+                self.strike(index);
+                Ok(())
+            }
+            None => Err(Refusal { reason: Reason::NoSuchAlias, place: 0 }),
+        }
+    }
 }
