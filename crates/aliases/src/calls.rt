@@ -1,8 +1,8 @@
 // What is asked of the alias table: define, remove, and look up.
 ghost use mathlib.Core.Path.{_≡_};
 ghost use mathlib.Core.Bool.{true, false};
-ghost use Prim.Native.Nat.{_+_, _-_, _<_};
-ghost use lib.ListN.{length, getD};
+ghost use Prim.Native.Nat.{_+_, _-_, _≤_, _<_};
+ghost use lib.ListN.{length};
 ghost use Rattle.basics.specs.Checks.{answer, unless};
 ghost use Rattle.std.specs.Finite.{update};
 ghost use Rattle.std.specs.Options.{Cases as BySome};
@@ -35,7 +35,8 @@ impl AliasTable {
 
     // The value at an index, and no bytes past the aliases.
     pub fn value_at(&self, index: usize) -> &[u8]
-        ensures { λ r. ⌜ now r ≡ valueAt (rows (now (self .entry))) index ⌝ }
+        ensures is { λ r. ⌜ now r ≡ valueAt (rows (now (self .entry))) index ⌝ }
+        ensures short { λ r. ⌜ length (now r) ≤ 64 ⌝ }
     {
         if index < self.count { self.slots[index].value() } else { b"" }
     }

@@ -35,7 +35,8 @@ impl Alias {
     }
 
     pub fn value(&self) -> &[u8]
-        ensures { λ r. ⌜ now r ≡ valueOf (now (self .entry)) ⌝ }
+        ensures is { λ r. ⌜ now r ≡ valueOf (now (self .entry)) ⌝ }
+        ensures short { λ r. ⌜ length (now r) ≤ 64 ⌝ }
     {
         &self.value[0..self.value_len as usize]
     }

@@ -10,7 +10,7 @@ pub returns-in-Some : need.returns-in-Some
 returns-in-Some c =
     let t = c .args .self .now in
     let f = c .in-Some .ensures tt .found in
-    ap Some (c .value-at .ensures)
+    ap Some (c .value-at .ensures .is)
     ∙ sym (value-known (take (t .count) (t .slots)) (c .in-Some .i) (c .args .name .now) (omega (arith, f .0, length-row (t .slots) (t .count) (omega arith))) (f .1) (t .different))
 
 pub returns-in-None : need.returns-in-None

@@ -7,9 +7,12 @@ use Rattle.aliases.proofs.table.AliasTable.value_at.Needs as need
 pub returns-then-index-self : need.returns-then-index-self
 returns-then-index-self c =
     let t = c .args .self .now in
-    c .value .ensures ∙ sym (value-here (t .slots) (t .count) (omega arith) (c .args .index) (c .index-self-index .result) (c .if-index-self .taken))
+    record {
+      is = c .value .ensures .is ∙ sym (value-here (t .slots) (t .count) (omega arith) (c .args .index) (c .index-self-index .result) (c .if-index-self .taken));
+      short = c .value .ensures .short;
+    }
 
 pub returns-else-index-self : need.returns-else-index-self
 returns-else-index-self c =
     let t = c .args .self .now in
-    sym (value-past (take (t .count) (t .slots)) (c .args .index) (omega (arith, length-row (t .slots) (t .count) (omega arith))))
+    record { is = sym (value-past (take (t .count) (t .slots)) (c .args .index) (omega (arith, length-row (t .slots) (t .count) (omega arith)))); short = omega arith }
