@@ -5,10 +5,10 @@ ghost use Prim.Native.Nat.{_+_, _-_, _≤_, _<_};
 ghost use denote.Ref.{now};
 ghost use lib.ListN.{length, drop};
 ghost use Rattle.aliases.specs.Rows.{nameAt, valueAt};
-ghost use Rattle.aliases.specs.Tables.{rows, aliasesOf};
+ghost use Rattle.aliases.specs.Tables.{rows};
 ghost use Rattle.source.specs.Symbols.{aliased, first, rest};
-ghost use Rattle.source.specs.Replacing.{isListed, standsFor, replaceAnswer, replacedComing, replacedNames, replacedLeft, closed};
-ghost use Rattle.source.specs.Fronts.{comingOf, openNames};
+ghost use Rattle.source.specs.Replacing.{isListed, replaceAnswer, replacedComing, replacedNames, replacedLeft, closed};
+ghost use Rattle.source.specs.Fronts.{comingOf, openNames, valueFor};
 use aliases::table::AliasTable;
 use basics::refusal::Reason;
 use basics::refusal::Refusal;
@@ -63,6 +63,29 @@ impl<'a, S: Source> AliasSource<'a, S> {
         self.left -= 1;
         self.from -= 1;
         self.held[self.from] = Entry { alias, offset: 0, place };
+    }
+
+    // Replaces a word by the value of its alias, and says whether it does; the 65th replacement is refused. The word's
+    // place goes to each symbol of the value, so a word in a value has the place of the outermost replaced word.
+    pub fn replace(&mut self, word: &[u8], place: u16) -> Result<bool, Refusal>
+        ensures said { λ r. ⌜ r ≡ replaceAnswer (valueFor (now (self .entry)) (now (word .entry))) (now (self .entry) .left) place ⌝ }
+        ensures coming { λ _. ⌜ comingOf (S·Source .coming) (now (self .exit)) ≡ replacedComing (valueFor (now (self .entry)) (now (word .entry))) (now (self .entry) .left) place (comingOf (S·Source .coming) (now (self .entry))) ⌝ }
+        ensures end { λ _. ⌜ S·Source .end (now (self .exit) .below) ≡ S·Source .end (now (self .entry) .below) ⌝ }
+        ensures names { λ _. ⌜ openNames (now (self .exit)) ≡ replacedNames (valueFor (now (self .entry)) (now (word .entry))) (now (self .entry) .left) (now (word .entry)) (openNames (now (self .entry))) ⌝ }
+        ensures left { λ _. ⌜ now (self .exit) .left ≡ replacedLeft (valueFor (now (self .entry)) (now (word .entry))) (now (self .entry) .left) ⌝ }
+        ensures table { λ _. ⌜ now (now (self .exit) .table) ≡ now (now (self .entry) .table) ⌝ }
+    {
+        let Some(index) = self.table.find(word) else {
+            return Ok(false);
+        };
+        if self.is_open(word) {
+            return Ok(false);
+        }
+        if self.left == 0 {
+            return Err(Refusal { reason: Reason::TooManyReplacements, place: place as usize });
+        }
+        self.push(index as u8, place);
+        Ok(true)
     }
 }
 
