@@ -1,0 +1,3 @@
+pub mod Forms
+pub mod Singles
+pub mod Backslashes
