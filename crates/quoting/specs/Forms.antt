@@ -66,3 +66,17 @@ pub record LawfulForm (text form : List ℕ) : Type 0 where
 -- A quoter is lawful if its forms of all texts free of byte 0 are.
 abbrev pub Lawful : (List ℕ → List ℕ) → Type 0
 Lawful form = (text : List ℕ) → Zero-free text → LawfulForm text (form text)
+
+-- Reading a form back gives the text, or the place of the first byte that makes the form unlawful: one that may not stand there,
+-- the end where the form breaks off, or the first past the most that its text may take.
+abbrev pub judged : List ℕ → Option (List ℕ) → Result (List ℕ) ℕ
+judged form None = Err (lawful-bytes Bare form)
+judged form (Some text) = cond (leb (length form) (longest (length text))) (Ok text) (Err (longest (length text)))
+
+abbrev pub unquoted : List ℕ → Result (List ℕ) ℕ
+unquoted [] = Err 0
+unquoted (b ∷ form) = judged (b ∷ form) (delivered Bare (b ∷ form))
+
+-- Reading back takes exactly the lawful forms, each as its text.
+abbrev pub Unquoting-takes-lawful-forms : Type 0
+Unquoting-takes-lawful-forms = (text form : List ℕ) → (LawfulForm text form → unquoted form ≡ Ok text) × (unquoted form ≡ Ok text → LawfulForm text form)

@@ -1,3 +1,4 @@
 pub mod Forms
+pub mod Unquoting
 pub mod Singles
 pub mod Backslashes

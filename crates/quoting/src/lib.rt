@@ -3,3 +3,4 @@ pub mod backslash;
 pub mod form;
 pub mod quoter;
 pub mod single;
+pub mod unquote;
