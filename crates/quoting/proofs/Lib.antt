@@ -4,3 +4,4 @@ pub mod Singly
 pub mod Backslashed
 pub mod Judging
 pub mod Delivering
+pub mod Lawfully

@@ -3,4 +3,5 @@ pub mod backslash;
 pub mod form;
 pub mod quoter;
 pub mod single;
+pub mod trip;
 pub mod unquote;
