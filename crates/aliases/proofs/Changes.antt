@@ -10,12 +10,11 @@ use Rattle.std.proofs.shelf.Lists.{map-set, map-push, set-past, take-more, take
 use Rattle.std.proofs.shelf.Equals.{sameBytes-decides}
 use Rattle.std.proofs.shelf.Tests.{cases-bool, cases-lt, both-ways, and-parts, and-from, not-true, not-from-false}
 use Rattle.std.specs.Finite.{update}
-use Rattle.std.specs.Options.{isSome}
 use Rattle.std.specs.shelf.Text.{sameBytes}
 use Rattle.std.specs.declared.option.Option.{Option}
 use Rattle.std.specs.declared.option.Option.the-variants.{Some, None}
 use Rattle.aliases.specs.declared.alias.Alias.{Alias}
-use Rattle.aliases.specs.Rows.{nameOf, valueOf, names, nameAt, valueAt, lookUp, indexFrom, isFree, apart}
+use Rattle.aliases.specs.Rows.{nameOf, valueOf, names, nameAt, valueAt, lookUp, isFree, apart}
 use Rattle.aliases.proofs.Lookups.{same-if, same-not, length-row}
 
 abbrev Look : Type 0
@@ -32,8 +31,8 @@ flip n m h = same-not m n (λ e. both-ways (sameBytes n m) h (same-if n m (sym e
 pub commute : (f : Look) (n m : List ℕ) (v w : Option (List ℕ)) → sameBytes n m ≡ false → at (at f n v) m w ≡ at (at f m w) n v
 commute f n m v w h = fun-ext (λ q. ⊎-elim
     (λ t. let e : q ≡ n = sameBytes-decides q n .0 t in
-          let o : sameBytes q m ≡ false = subst (λ x. sameBytes x m ≡ false) (sym e) h in
-          rw (o, t))
+    let o : sameBytes q m ≡ false = subst (λ x. sameBytes x m ≡ false) (sym e) h in
+    rw (o, t))
     (λ o. rw o)
     (cases-bool (sameBytes q n)))
 
@@ -90,7 +89,7 @@ struck (b ∷ row) z zero l g h =
     let p = and-parts (isFree (nameOf b) (names row)) (apart (names row)) h in
     let o : sameBytes (nameOf z) (nameOf b) ≡ false = differs (b ∷ row) zero (nameOf z) (omega arith) g in
     sym (commute (lookUp (b ∷ row)) (nameOf z) (nameOf b) (Some (valueOf z)) None o
-        ∙ ap (λ f. at f (nameOf z) (Some (valueOf z))) (again (lookUp row) (nameOf b) (Some (valueOf b)) None ∙ free-stays row (nameOf b) (p .0)))
+    ∙ ap (λ f. at f (nameOf z) (Some (valueOf z))) (again (lookUp row) (nameOf b) (Some (valueOf b)) None ∙ free-stays row (nameOf b) (p .0)))
 struck (b ∷ row) z (suc i) l g h =
     let p = and-parts (isFree (nameOf b) (names row)) (apart (names row)) h in
     let k = and-parts (not (sameBytes (nameOf z) (nameOf b))) (isFree (nameOf z) (names row)) g in
@@ -147,12 +146,6 @@ apart-set (n ∷ ns) m (suc i) h g =
     let p = and-parts (isFree n ns) (apart ns) h in
     let k = and-parts (not (sameBytes m n)) (isFree m ns) g in
     and-from _ _ (free-set n m ns i (p .0) (flip m n (not-true _ (k .0)))) (apart-set ns m i (p .1) (k .1))
-
--- an alias has an index where its name has a value
-pub index-known : (row : List Alias) (k : ℕ) (n : List ℕ) → isSome (indexFrom k n row) ≡ isSome (lookUp row n)
-index-known [] k n = refl
-index-known (a ∷ row) k n =
-    elim (sameBytes n (nameOf a)) as (λ b. isSome (cond b (Some k) (indexFrom (k + 1) n row)) ≡ isSome (cond b (Some (valueOf a)) (lookUp row n))) [ true ↦ refl | false ↦ index-known row (k + 1) n ]
 
 -- the value at an index is the value at its name
 pub value-known : (row : List Alias) (i : ℕ) (n : List ℕ) → i < length row → nameAt row i ≡ n → apart (names row) ≡ true → lookUp row n ≡ Some (valueAt row i)
@@ -213,8 +206,8 @@ module _ (row : List Alias) (z : Alias) (i : ℕ) (l : i ≤ length row) (h : ap
   less = ⊎-elim
       (λ k. struck row z i k (parts .1) (parts .0) ∙ sym (ap (λ f. at f (nameAt (row ++ z ∷ []) i) None) full ∙ ap (λ n. at (at (lookUp row) (nameOf z) (Some (valueOf z))) n None) (name-before row z i k)))
       (λ k. let e : i ≡ length row = omega arith in
-            ap lookUp (set-past row i z k) ∙ struck-last row z (parts .1)
-            ∙ sym (ap (λ f. at f (nameAt (row ++ z ∷ []) i) None) full ∙ ap (λ n. at (at (lookUp row) (nameOf z) (Some (valueOf z))) n None) (ap (nameAt (row ++ z ∷ [])) e ∙ name-last row z)))
+      ap lookUp (set-past row i z k) ∙ struck-last row z (parts .1)
+      ∙ sym (ap (λ f. at f (nameAt (row ++ z ∷ []) i) None) full ∙ ap (λ n. at (at (lookUp row) (nameOf z) (Some (valueOf z))) n None) (ap (nameAt (row ++ z ∷ [])) e ∙ name-last row z)))
       (cases-lt i (length row))
 
 module _ (slots : List Alias) (n : ℕ) (within : n ≤ length slots) (h : apart (names (take n slots)) ≡ true) (i : ℕ) (l : i < n) (d : Alias) where

@@ -27,7 +27,6 @@ pub kept-if : {X : Type 0} (check : Option Refusal) (was made : X) (f : Refusal)
 kept-if check was made f p = sym (ap (λ c. unless c was made) p)
 
 module _ (a : Aliases) (n v : List ℕ) where
-
   pub misspelled : (f : Refusal) → spellingCheck n v ≡ Some f → defineCheck a n v ≡ Some f
   misspelled f e = ap (λ c. or-else c (refuse-if (not (isSome (a .named n)) && leb 8 (a .count)) TooManyAliases 0)) e
 

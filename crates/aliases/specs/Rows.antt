@@ -51,3 +51,8 @@ abbrev pub valueAt : List Alias → ℕ → List ℕ
 valueAt [] i = []
 valueAt (a ∷ row) zero = valueOf a
 valueAt (a ∷ row) (suc i) = valueAt row i
+
+-- the value at an index that was found, and none where there was none
+abbrev pub valueAtFound : List Alias → Option ℕ → Option (List ℕ)
+valueAtFound row None = None
+valueAtFound row (Some i) = Some (valueAt row i)

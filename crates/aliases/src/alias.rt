@@ -5,6 +5,7 @@ ghost use lib.ListN.{length};
 
 // The most bytes that a name and a value may have.
 pub const NAME_LIMIT: usize = 16;
+
 pub const VALUE_LIMIT: usize = 64;
 
 #[derive(Clone, Copy)]

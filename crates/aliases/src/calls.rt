@@ -10,27 +10,34 @@ ghost use Rattle.std.specs.Results.{isOk};
 ghost use Rattle.std.specs.shelf.Text.{sameBytes};
 ghost use Rattle.std.specs.declared.option.Option.the-variants.{Some, None};
 ghost use Rattle.aliases.specs.Aliases.{noAliases, defineCheck, defined, removeCheck, removed};
-ghost use Rattle.aliases.specs.Rows.{nameOf, valueOf, names, nameAt, valueAt, lookUp, indexOf, isFree};
+ghost use Rattle.aliases.specs.Rows.{nameOf, valueOf, names, nameAt, valueAt, lookUp, indexOf, isFree, valueAtFound};
 ghost use Rattle.aliases.specs.Tables.{rows, aliasesOf, lent};
-use basics::refusal::Reason;
-use basics::refusal::Refusal;
 use crate::alias::Alias;
 use crate::spelling::check_spelling;
 use crate::table::ALIAS_LIMIT;
 use crate::table::AliasTable;
+use basics::refusal::Reason;
+use basics::refusal::Refusal;
 
 impl AliasTable {
     pub fn new() -> AliasTable
         ensures { λ r. ⌜ aliasesOf r ≡ noAliases ⌝ }
     {
-        AliasTable { slots: [Alias::new(b"", b""); 8], count: 0 }
+        AliasTable {
+            slots: [Alias::new(b"", b""); 8],
+            count: 0,
+        }
     }
 
     // The name at an index, and no bytes past the aliases.
     pub fn name_at(&self, index: usize) -> &[u8]
         ensures { λ r. ⌜ now r ≡ nameAt (rows (now (self .entry))) index ⌝ }
     {
-        if index < self.count { self.slots[index].name() } else { b"" }
+        if index < self.count {
+            self.slots[index].name()
+        } else {
+            b""
+        }
     }
 
     // The value at an index, and no bytes past the aliases.
@@ -38,13 +45,18 @@ impl AliasTable {
         ensures is { λ r. ⌜ now r ≡ valueAt (rows (now (self .entry))) index ⌝ }
         ensures short { λ r. ⌜ length (now r) ≤ 64 ⌝ }
     {
-        if index < self.count { self.slots[index].value() } else { b"" }
+        if index < self.count {
+            self.slots[index].value()
+        } else {
+            b""
+        }
     }
 
     // The index of the alias of this name.
     pub fn find(&self, name: &[u8]) -> Option<usize>
         ensures is { λ r. ⌜ r ≡ indexOf (now (name .entry)) (rows (now (self .entry))) ⌝ }
         ensures found { λ r. ⌜ BySome r (isFree (now (name .entry)) (names (rows (now (self .entry)))) ≡ true) (λ i. (i < now (self .entry) .count) × (nameAt (rows (now (self .entry))) i ≡ now (name .entry))) ⌝ }
+        ensures value { λ r. ⌜ aliasesOf (now (self .entry)) .named (now (name .entry)) ≡ valueAtFound (rows (now (self .entry))) r ⌝ }
     {
         for i in 0..self.count {
             if self.slots[i].name() == name {
@@ -107,7 +119,10 @@ impl AliasTable {
             Some(index) => self.replace(index, alias),
             None => {
                 if self.count == ALIAS_LIMIT {
-                    return Err(Refusal { reason: Reason::TooManyAliases, place: 0 });
+                    return Err(Refusal {
+                        reason: Reason::TooManyAliases,
+                        place: 0,
+                    });
                 }
                 self.append(alias);
             }
@@ -126,7 +141,10 @@ impl AliasTable {
                 self.strike(index);
                 Ok(())
             }
-            None => Err(Refusal { reason: Reason::NoSuchAlias, place: 0 }),
+            None => Err(Refusal {
+                reason: Reason::NoSuchAlias,
+                place: 0,
+            }),
         }
     }
 }

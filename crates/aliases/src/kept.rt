@@ -25,16 +25,21 @@ impl Alias {
         ensures name { λ r. ⌜ nameOf r ≡ now (name .entry) ⌝ }
         ensures value { λ r. ⌜ valueOf r ≡ now (value .entry) ⌝ }
     {
-        Alias { name: padded(name), name_len: name.len() as u8, value: padded(value), value_len: value.len() as u8 }
+        Alias {
+            name: padded(name),
+            name_len: name.len() as u8,
+            value: padded(value),
+            value_len: value.len() as u8,
+        }
     }
 
-    pub fn name(&self) -> &[u8]
+    pub(crate) fn name(&self) -> &[u8]
         ensures { λ r. ⌜ now r ≡ nameOf (now (self .entry)) ⌝ }
     {
         &self.name[0..self.name_len as usize]
     }
 
-    pub fn value(&self) -> &[u8]
+    pub(crate) fn value(&self) -> &[u8]
         ensures is { λ r. ⌜ now r ≡ valueOf (now (self .entry)) ⌝ }
         ensures short { λ r. ⌜ length (now r) ≤ 64 ⌝ }
     {

@@ -1,9 +1,9 @@
 // The alias table: up to eight names, each with the value that replaces it.
 pub mod alias;
+pub mod calls;
 mod kept;
 mod spelling;
 pub mod table;
-pub mod calls;
 
 #[cfg(test)]
 mod tests {
@@ -36,11 +36,41 @@ mod tests {
     #[test]
     fn refuses() -> Result<(), Fail> {
         let mut table = AliasTable::new();
-        check_eq(table.define(b"a b", b"c"), Err(Refusal { reason: Reason::BadAlias, place: 1 }))?;
-        check_eq(table.define(b"a", b"c;"), Err(Refusal { reason: Reason::BadAlias, place: 1 }))?;
-        check_eq(table.define(b"a", b" \t"), Err(Refusal { reason: Reason::BadAlias, place: 0 }))?;
-        check_eq(table.define(b"a2345678901234567", b""), Err(Refusal { reason: Reason::TooLong, place: 0 }))?;
-        check_eq(table.remove(b"a"), Err(Refusal { reason: Reason::NoSuchAlias, place: 0 }))
+        check_eq(
+            table.define(b"a b", b"c"),
+            Err(Refusal {
+                reason: Reason::BadAlias,
+                place: 1,
+            }),
+        )?;
+        check_eq(
+            table.define(b"a", b"c;"),
+            Err(Refusal {
+                reason: Reason::BadAlias,
+                place: 1,
+            }),
+        )?;
+        check_eq(
+            table.define(b"a", b" \t"),
+            Err(Refusal {
+                reason: Reason::BadAlias,
+                place: 0,
+            }),
+        )?;
+        check_eq(
+            table.define(b"a2345678901234567", b""),
+            Err(Refusal {
+                reason: Reason::TooLong,
+                place: 0,
+            }),
+        )?;
+        check_eq(
+            table.remove(b"a"),
+            Err(Refusal {
+                reason: Reason::NoSuchAlias,
+                place: 0,
+            }),
+        )
     }
 
     #[test]
@@ -49,7 +79,13 @@ mod tests {
         for name in [b"a", b"b", b"c", b"d", b"e", b"f", b"g", b"h"] {
             check(table.define(name, b"v").is_ok())?;
         }
-        check_eq(table.define(b"i", b"v"), Err(Refusal { reason: Reason::TooManyAliases, place: 0 }))?;
+        check_eq(
+            table.define(b"i", b"v"),
+            Err(Refusal {
+                reason: Reason::TooManyAliases,
+                place: 0,
+            }),
+        )?;
         check(table.define(b"h", b"w").is_ok())
     }
 }

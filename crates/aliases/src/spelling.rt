@@ -6,12 +6,12 @@ ghost use lib.ListN.{length};
 ghost use Rattle.basics.specs.Checks.{answer};
 ghost use Rattle.std.specs.Vec.{made};
 ghost use Rattle.aliases.specs.Spelling.{isNameByte, isValueByte, isBlank, nameCheck, valueCheck, lengthCheck, spellingCheck};
+use crate::alias::NAME_LIMIT;
+use crate::alias::VALUE_LIMIT;
 use basics::refusal::Reason;
 use basics::refusal::Refusal;
 use basics::search::ByteTest;
 use basics::search::first_where;
-use crate::alias::NAME_LIMIT;
-use crate::alias::VALUE_LIMIT;
 
 // No byte of a name.
 struct OutsideName;
@@ -59,10 +59,16 @@ fn check_name(name: &[u8]) -> Result<(), Refusal>
     ensures { λ r. ⌜ r ≡ answer (nameCheck (now (name .entry))) tt ⌝ }
 {
     if let Some(place) = first_where(&OutsideName, name) {
-        return Err(Refusal { reason: Reason::BadAlias, place });
+        return Err(Refusal {
+            reason: Reason::BadAlias,
+            place,
+        });
     }
     if name.is_empty() {
-        return Err(Refusal { reason: Reason::BadAlias, place: 0 });
+        return Err(Refusal {
+            reason: Reason::BadAlias,
+            place: 0,
+        });
     }
     Ok(())
 }
@@ -71,11 +77,17 @@ fn check_value(value: &[u8]) -> Result<(), Refusal>
     ensures { λ r. ⌜ r ≡ answer (valueCheck (now (value .entry))) tt ⌝ }
 {
     if let Some(place) = first_where(&OutsideValue, value) {
-        return Err(Refusal { reason: Reason::BadAlias, place });
+        return Err(Refusal {
+            reason: Reason::BadAlias,
+            place,
+        });
     }
     match first_where(&Printed, value) {
         Some(_) => Ok(()),
-        None => Err(Refusal { reason: Reason::BadAlias, place: 0 }),
+        None => Err(Refusal {
+            reason: Reason::BadAlias,
+            place: 0,
+        }),
     }
 }
 
@@ -84,7 +96,10 @@ fn check_lengths(name: &[u8], value: &[u8]) -> Result<(), Refusal>
     ensures short { λ r. ⌜ made r (λ _. (length (now (name .entry)) ≤ 16) × (length (now (value .entry)) ≤ 64)) ⌝ }
 {
     if name.len() > NAME_LIMIT || value.len() > VALUE_LIMIT {
-        return Err(Refusal { reason: Reason::TooLong, place: 0 });
+        return Err(Refusal {
+            reason: Reason::TooLong,
+            place: 0,
+        });
     }
     Ok(())
 }

@@ -1,11 +1,11 @@
 // Where symbols come from: scripts, templates, and the values of aliases in front of either.
-pub mod symbol;
-pub mod source;
-mod text;
-pub mod script;
-pub mod template;
 pub mod alias;
 pub mod replace;
+pub mod script;
+pub mod source;
+pub mod symbol;
+pub mod template;
+mod text;
 
 #[cfg(test)]
 mod tests {
@@ -32,14 +32,23 @@ mod tests {
     }
 
     fn byte(b: u8, place: u16) -> Option<Symbol> {
-        Some(Symbol { sign: Sign::Byte(b), place })
+        Some(Symbol {
+            sign: Sign::Byte(b),
+            place,
+        })
     }
 
     #[test]
     fn reads_holes() -> Result<(), Fail> {
         let mut t = TemplateSource::new(b"a@{3}@");
         check_eq(next(&mut t), byte(b'a', 0))?;
-        check_eq(next(&mut t), Some(Symbol { sign: Sign::Hole(3), place: 1 }))?;
+        check_eq(
+            next(&mut t),
+            Some(Symbol {
+                sign: Sign::Hole(3),
+                place: 1,
+            }),
+        )?;
         check_eq(next(&mut t), byte(b'@', 5))?;
         check_eq(next(&mut t), None)?;
         check_eq(t.end_place(), 6)?;
@@ -60,10 +69,22 @@ mod tests {
         check(s.replace(b"c", 7) == Ok(false))?;
         check_eq(next(&mut s), byte(b'c', 7))?;
         check(s.is_open(b"b"))?;
-        check_eq(next(&mut s), Some(Symbol { sign: Sign::AliasEnd, place: 7 }))?;
+        check_eq(
+            next(&mut s),
+            Some(Symbol {
+                sign: Sign::AliasEnd,
+                place: 7,
+            }),
+        )?;
         check(!s.is_open(b"b"))?;
         check_eq(next(&mut s), byte(b'b', 7))?;
-        check_eq(next(&mut s), Some(Symbol { sign: Sign::AliasEnd, place: 7 }))?;
+        check_eq(
+            next(&mut s),
+            Some(Symbol {
+                sign: Sign::AliasEnd,
+                place: 7,
+            }),
+        )?;
         check_eq(next(&mut s), byte(b'x', 0))?;
         check_eq(next(&mut s), None)
     }

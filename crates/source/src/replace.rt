@@ -9,15 +9,15 @@ ghost use Rattle.aliases.specs.Tables.{rows};
 ghost use Rattle.source.specs.Symbols.{aliased, first, rest};
 ghost use Rattle.source.specs.Replacing.{isListed, replaceAnswer, replacedComing, replacedNames, replacedLeft, closed};
 ghost use Rattle.source.specs.Fronts.{comingOf, openNames, valueFor};
-use aliases::table::AliasTable;
-use basics::refusal::Reason;
-use basics::refusal::Refusal;
 use crate::alias::AliasSource;
 use crate::alias::Entry;
 use crate::alias::REPLACEMENT_LIMIT;
 use crate::source::Source;
 use crate::symbol::Sign;
 use crate::symbol::Symbol;
+use aliases::table::AliasTable;
+use basics::refusal::Reason;
+use basics::refusal::Refusal;
 
 impl<'a, S: Source> AliasSource<'a, S> {
     // The source below, with no word replaced yet.
@@ -31,7 +31,11 @@ impl<'a, S: Source> AliasSource<'a, S> {
         AliasSource {
             below,
             table,
-            held: [Entry { alias: 0, offset: 0, place: 0 }; 64],
+            held: [Entry {
+                alias: 0,
+                offset: 0,
+                place: 0,
+            }; 64],
             from: REPLACEMENT_LIMIT,
             left: REPLACEMENT_LIMIT,
         }
@@ -62,7 +66,11 @@ impl<'a, S: Source> AliasSource<'a, S> {
     {
         self.left -= 1;
         self.from -= 1;
-        self.held[self.from] = Entry { alias, offset: 0, place };
+        self.held[self.from] = Entry {
+            alias,
+            offset: 0,
+            place,
+        };
     }
 
     // Replaces a word by the value of its alias, and says whether it does; the 65th replacement is refused. The word's
@@ -82,7 +90,10 @@ impl<'a, S: Source> AliasSource<'a, S> {
             return Ok(false);
         }
         if self.left == 0 {
-            return Err(Refusal { reason: Reason::TooManyReplacements, place: place as usize });
+            return Err(Refusal {
+                reason: Reason::TooManyReplacements,
+                place: place as usize,
+            });
         }
         self.push(index as u8, place);
         Ok(true)
@@ -91,6 +102,7 @@ impl<'a, S: Source> AliasSource<'a, S> {
 
 pub impl<S: Source> Source for AliasSource<'_, S> as AliasSymbols {
     ghost coming = { comingOf (S·Source .coming) };
+
     ghost end = { λ p. S·Source .end (p .below) };
 
     fn look(&self) -> Option<Symbol> {
@@ -98,9 +110,15 @@ pub impl<S: Source> Source for AliasSource<'_, S> as AliasSymbols {
             let e = self.held[self.from];
             let value = self.table.value_at(e.alias as usize);
             if (e.offset as usize) < value.len() {
-                Some(Symbol { sign: Sign::Byte(value[e.offset as usize]), place: e.place })
+                Some(Symbol {
+                    sign: Sign::Byte(value[e.offset as usize]),
+                    place: e.place,
+                })
             } else {
-                Some(Symbol { sign: Sign::AliasEnd, place: e.place })
+                Some(Symbol {
+                    sign: Sign::AliasEnd,
+                    place: e.place,
+                })
             }
         } else {
             self.below.look()
@@ -117,7 +135,11 @@ pub impl<S: Source> Source for AliasSource<'_, S> as AliasSymbols {
         if self.from < REPLACEMENT_LIMIT {
             let e = self.held[self.from];
             if (e.offset as usize) < self.table.value_at(e.alias as usize).len() {
-                self.held[self.from] = Entry { alias: e.alias, offset: e.offset + 1, place: e.place };
+                self.held[self.from] = Entry {
+                    alias: e.alias,
+                    offset: e.offset + 1,
+                    place: e.place,
+                };
             } else {
                 self.from += 1;
             }

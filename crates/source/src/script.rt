@@ -25,17 +25,24 @@ impl<'a> ScriptSource<'a> {
         ensures text { λ r. ⌜ now (r .text) ≡ take 4096 (now (text .entry)) ⌝ }
         ensures at { λ r. ⌜ r .at ≡ 0 ⌝ }
     {
-        ScriptSource { text: front(text, SCRIPT_LIMIT), at: 0 }
+        ScriptSource {
+            text: front(text, SCRIPT_LIMIT),
+            at: 0,
+        }
     }
 }
 
 pub impl Source for ScriptSource<'_> as ScriptSymbols {
     ghost coming = { λ s. script (drop (s .at) (now (s .text))) (s .at) };
+
     ghost end = { λ s. length (now (s .text)) };
 
     fn look(&self) -> Option<Symbol> {
         if self.at < self.text.len() {
-            Some(Symbol { sign: Sign::Byte(self.text[self.at]), place: self.at as u16 })
+            Some(Symbol {
+                sign: Sign::Byte(self.text[self.at]),
+                place: self.at as u16,
+            })
         } else {
             None
         }

@@ -60,17 +60,24 @@ impl<'a> TemplateSource<'a> {
         ensures rest { λ r. ⌜ now (r .rest) ≡ take 1024 (now (text .entry)) ⌝ }
         ensures at { λ r. ⌜ r .at ≡ 0 ⌝ }
     {
-        TemplateSource { rest: front(text, TEMPLATE_LIMIT), at: 0 }
+        TemplateSource {
+            rest: front(text, TEMPLATE_LIMIT),
+            at: 0,
+        }
     }
 }
 
 pub impl Source for TemplateSource<'_> as TemplateSymbols {
     ghost coming = { λ s. template (now (s .rest)) (s .at) };
+
     ghost end = { λ s. s .at + length (now (s .rest)) };
 
     fn look(&self) -> Option<Symbol> {
         match cut(self.rest).0 {
-            Some(sign) => Some(Symbol { sign, place: self.at as u16 }),
+            Some(sign) => Some(Symbol {
+                sign,
+                place: self.at as u16,
+            }),
             None => None,
         }
     }

@@ -8,5 +8,9 @@ pub(crate) fn front(text: &[u8], most: usize) -> &[u8]
     ensures is { λ r. ⌜ now r ≡ take most (now (text .entry)) ⌝ }
     ensures short { λ r. ⌜ length (now r) ≤ most ⌝ }
 {
-    if text.len() > most { &text[0..most] } else { text }
+    if text.len() > most {
+        &text[0..most]
+    } else {
+        text
+    }
 }

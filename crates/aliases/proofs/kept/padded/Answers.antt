@@ -16,9 +16,9 @@ loop-i-again g c =
     let inv = c .loop-i .inv in
     let h : i < length (c .loop-i .bytes) = omega (arith, inv .1) in
     let k : i < length (c .args .text .now) = c .loop-i-test .taken in
-    let v = getD (c .args .text .now) i 0 in
-    ( rw add-one (take-suc-set (c .loop-i .bytes) i v h ∙ ap (λ (r : List ℕ). r ++ v ∷ []) (inv .0) ∙ sym (take-suc (c .args .text .now) i 0 k))
-    , simp length-set (inv .1)
+    let v = getD (c .args .text .now) i 0 in (
+      rw add-one (take-suc-set (c .loop-i .bytes) i v h ∙ ap (λ (r : List ℕ). r ++ v ∷ []) (inv .0) ∙ sym (take-suc (c .args .text .now) i 0 k)),
+      simp length-set (inv .1),
     )
 
 pub returns : need.returns

@@ -14,7 +14,6 @@ use Rattle.aliases.specs.Aliases.{defineCheck, defined}
 use Rattle.aliases.specs.Spelling.{spellingCheck}
 use Rattle.aliases.specs.Rows.{lookUp}
 use Rattle.aliases.specs.Tables.{rows, aliasesOf}
-use Rattle.aliases.proofs.Changes.{index-known}
 use Rattle.aliases.proofs.Defined.{same-aliases, made-if, kept-if, misspelled, another, newly, count-another, count-newly}
 use Rattle.aliases.proofs.table.AliasTable.define.Needs as need
 
@@ -37,7 +36,7 @@ returns-in-Some c =
     let n = c .args .name .now in
     let v = c .args .value .now in
     let a = aliasesOf t in
-    let s = sym (ap isSome (c .in-Some .ensures tt .is) ∙ index-known (rows t) 0 n) in
+    let s = ap isSome (c .in-Some .ensures tt .value) in
     let p = another a n v (passed-if-ok (spellingCheck n v) tt _ (c .in-Continue-check-spelling .ensures tt .is)) s in
     let named = c .replace .ensures .named ∙ ap₂ (λ m w. update sameBytes (lookUp (rows t)) m (Some w)) (c .new-alias .ensures .name) (c .new-alias .ensures .value) in
     record {
@@ -52,7 +51,7 @@ returns-else-self-eq-ALIAS-LIMIT c =
     let n = c .args .name .now in
     let v = c .args .value .now in
     let a = aliasesOf t in
-    let s = sym (ap isSome (c .in-None .ensures tt .is) ∙ index-known (rows t) 0 n) in
+    let s = ap isSome (c .in-None .ensures tt .value) in
     let p = newly a n v (passed-if-ok (spellingCheck n v) tt _ (c .in-Continue-check-spelling .ensures tt .is)) s (omega arith) in
     let named = c .append .ensures .named ∙ ap₂ (λ m w. update sameBytes (lookUp (rows t)) m (Some w)) (c .new-alias .ensures .name) (c .new-alias .ensures .value) in
     record {

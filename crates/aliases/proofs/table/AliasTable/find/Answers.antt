@@ -4,7 +4,9 @@ use native.Mathlib.Omega.{arith}
 use Rattle.std.proofs.shelf.Equals.{matches-decides}
 use Rattle.std.proofs.shelf.Tests.{both-ways}
 use Rattle.aliases.specs.Rows.{nameOf}
-use Rattle.aliases.proofs.Lookups.{name-here, found, passed, passed-free, not-found, all-free}
+use Rattle.aliases.specs.Tables.{rows}
+use Rattle.aliases.proofs.Lookups.{length-row, name-here, found, passed, passed-free, not-found, all-free}
+use Rattle.aliases.proofs.Changes.{value-known, free-none}
 use Rattle.aliases.proofs.table.AliasTable.find.Needs as need
 
 pub returns-then-eq : need.returns-then-eq
@@ -16,6 +18,9 @@ returns-then-eq c =
     record {
       is = found (t .slots) (t .count) (omega arith) i a (omega arith) (c .args .name .now) same ∙ c .loop-i .inv .0;
       found = (omega arith, name-here (t .slots) (t .count) (omega arith) i a (omega arith) ∙ same);
+      value =
+          let n = name-here (t .slots) (t .count) (omega arith) i a (omega arith) ∙ same in
+          value-known (rows t) i (c .args .name .now) (omega (arith, length-row (t .slots) (t .count) (omega arith))) n (t .different);
     }
 
 pub loop-i-again : need.loop-i-again
@@ -24,9 +29,9 @@ loop-i-again c =
     let i = c .loop-i .i in
     let a = c .index-self-i .result in
     let name = c .args .name .now in
-    let apart : nameOf (getD (t .slots) i a) ≡ name → ⊥ = λ e. both-ways (c .eq .result) (c .if-eq .left) (matches-decides _ _ _ (c .eq .ensures) .1 (c .name .ensures ∙ e)) in
-    ( passed (t .slots) (t .count) (omega arith) i a (omega arith) name apart ∙ c .loop-i .inv .0
-    , passed-free (t .slots) (t .count) (omega arith) i a (omega arith) name apart ∙ c .loop-i .inv .1
+    let apart : nameOf (getD (t .slots) i a) ≡ name → ⊥ = λ e. both-ways (c .eq .result) (c .if-eq .left) (matches-decides _ _ _ (c .eq .ensures) .1 (c .name .ensures ∙ e)) in (
+      passed (t .slots) (t .count) (omega arith) i a (omega arith) name apart ∙ c .loop-i .inv .0,
+      passed-free (t .slots) (t .count) (omega arith) i a (omega arith) name apart ∙ c .loop-i .inv .1,
     )
 
 pub returns : need.returns
@@ -34,7 +39,9 @@ returns c =
     let t = c .args .self .now in
     let i = c .loop-i .i in
     let name = c .args .name .now in
+    let free = sym (c .loop-i .inv .1) ∙ all-free (t .slots) (t .count) (omega arith) i name (c .loop-i-test .left) in
     record {
       is = not-found (t .slots) (t .count) (omega arith) i name (c .loop-i-test .left) ∙ c .loop-i .inv .0;
-      found = sym (c .loop-i .inv .1) ∙ all-free (t .slots) (t .count) (omega arith) i name (c .loop-i-test .left);
+      found = free;
+      value = free-none (rows t) name free;
     }

@@ -9,7 +9,6 @@ use Rattle.basics.specs.Checks.{answer}
 use Rattle.aliases.specs.Aliases.{removeCheck, removed}
 use Rattle.aliases.specs.Rows.{lookUp}
 use Rattle.aliases.specs.Tables.{rows, aliasesOf}
-use Rattle.aliases.proofs.Changes.{index-known}
 use Rattle.aliases.proofs.Defined.{same-aliases, made-if, kept-if, there, not-there}
 use Rattle.aliases.proofs.table.AliasTable.remove.Needs as need
 
@@ -18,7 +17,7 @@ returns-in-Some c =
     let t = c .args .self .now in
     let n = c .args .name .now in
     let f = c .in-Some .ensures tt in
-    let p = there (aliasesOf t) n (sym (ap isSome (f .is) ∙ index-known (rows t) 0 n)) in
+    let p = there (aliasesOf t) n (ap isSome (f .value)) in
     record {
       said = sym (ap (λ o. answer o tt) p);
       after = made-if (removeCheck (aliasesOf t) n) (aliasesOf t) (removed (aliasesOf t) n) _ p (same-aliases (c .strike .ensures .named ∙ ap (λ m. update sameBytes (lookUp (rows t)) m None) (f .found .1)) (c .strike .ensures .count));
@@ -30,5 +29,5 @@ returns-in-None c =
     let t = c .args .self .now in
     let n = c .args .name .now in
     let f = c .in-None .ensures tt in
-    let p = not-there (aliasesOf t) n (sym (ap isSome (f .is) ∙ index-known (rows t) 0 n)) in
+    let p = not-there (aliasesOf t) n (ap isSome (f .value)) in
     record { said = sym (ap (λ o. answer o tt) p); after = kept-if (removeCheck (aliasesOf t) n) (aliasesOf t) (removed (aliasesOf t) n) _ p; kept = λ _. refl }

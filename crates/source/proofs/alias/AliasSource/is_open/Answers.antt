@@ -27,7 +27,7 @@ loop-i-again g c =
     let p = c .args .self .now in
     let n = c .args .name .now in
     let apart : nameAt (rows (now (p .table))) (getD (p .held) (c .loop-i .i) no-entry .alias) ≡ n → ⊥ =
-        λ e. both-ways (c .eq .result) (c .if-eq .left) (matches-decides _ _ _ (c .eq .ensures) .1 (c .name-at .ensures ∙ e)) in
+    λ e. both-ways (c .eq .result) (c .if-eq .left) (matches-decides _ _ _ (c .eq .ensures) .1 (c .name-at .ensures ∙ e)) in
     passed (rows (now (p .table))) (p .held) (c .loop-i .i) n no-entry (omega arith) apart ∙ c .loop-i .inv
 
 pub returns : need.returns
