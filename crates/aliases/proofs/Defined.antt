@@ -50,6 +50,3 @@ module _ (a : Aliases) (n v : List ℕ) where
 module _ (a : Aliases) (n : List ℕ) where
   pub there : isSome (a .named n) ≡ true → removeCheck a n ≡ None
   there s = ap (λ b. refuse-if (not b) NoSuchAlias 0) s
-
-  pub not-there : isSome (a .named n) ≡ false → removeCheck a n ≡ Some (refusal NoSuchAlias 0)
-  not-there s = ap (λ b. refuse-if (not b) NoSuchAlias 0) s
