@@ -1,20 +1,17 @@
 -- The ways that a definition and a removal of an alias go. Assumes nothing.
-use mathlib.Core.Path.{_≡_, refl, sym, ap, ap₂, _∙_}
-use mathlib.Core.Bool.{Bool, true, false, cond, not, _&&_}
+use mathlib.Core.Path.{_≡_, sym, ap, ap₂, _∙_}
+use mathlib.Core.Bool.{true, false, cond, not, _&&_}
 use mathlib.Core.List.{List}
-use Prim.Native.Nat.{ℕ, _+_, _-_, _≤_, _<_}
+use Prim.Native.Nat.{ℕ, _+_, _-_, _<_}
 use lib.Dec.{leb}
-use lib.ListN.{length}
 use Rattle.std.proofs.shelf.Tests.{lt-leb}
-use Rattle.std.specs.Finite.{update}
 use Rattle.std.specs.Options.{isSome}
-use Rattle.std.specs.shelf.Text.{sameBytes}
 use Rattle.std.specs.declared.option.Option.{Option}
 use Rattle.std.specs.declared.option.Option.the-variants.{Some, None}
-use Rattle.basics.specs.Checks.{refuse-if, or-else, unless, refusal}
+use Rattle.basics.specs.Checks.{refuse-if, or-else, unless}
 use Rattle.basics.specs.declared.refusal.Refusal.{Refusal}
 use Rattle.basics.specs.declared.refusal.Reason.the-variants.{TooManyAliases, NoSuchAlias}
-use Rattle.aliases.specs.Aliases.{Aliases, defineCheck, defined, removeCheck, removed}
+use Rattle.aliases.specs.Aliases.{Aliases, defineCheck, defined, removeCheck}
 use Rattle.aliases.specs.Spelling.{spellingCheck}
 
 pub same-aliases : {a b : Aliases} → a .named ≡ b .named → a .count ≡ b .count → a ≡ b

@@ -1,8 +1,8 @@
 -- Replacements in front of a source. Assumes nothing.
 use mathlib.Core.Path.{_≡_, refl, sym, ap, _∙_}
-use mathlib.Core.Bool.{Bool, true, false, _||_}
+use mathlib.Core.Bool.{true, _||_}
 use mathlib.Core.List.{List, [], _∷_}
-use Prim.Native.Nat.{ℕ, zero, suc, _+_, _-_, _≤_, _<_}
+use Prim.Native.Nat.{ℕ, _+_, _-_, _≤_, _<_}
 use native.Mathlib.Omega.{arith}
 use lib.ListN.{length, drop, getD, set}
 use Rattle.std.proofs.shelf.Lists.{drop-more, drop-all, drop-set, at-drop-more, at-drop-all}
@@ -12,7 +12,6 @@ use Rattle.std.specs.declared.option.Option.the-variants.{Some, None}
 use Rattle.aliases.specs.declared.alias.Alias.{Alias}
 use Rattle.aliases.specs.Rows.{nameAt, valueAt}
 use Rattle.aliases.proofs.Lookups.{same-if, same-not}
-use Rattle.source.specs.declared.symbol.Sign.{Sign}
 use Rattle.source.specs.declared.symbol.Sign.the-variants.{Byte, Hole, AliasEnd}
 use Rattle.source.specs.declared.symbol.Symbol.{Symbol}
 use Rattle.source.specs.declared.alias.Entry.{Entry}

@@ -4,14 +4,12 @@ use mathlib.Core.Bool.{Bool, true, false, cond}
 use mathlib.Core.List.{List, [], _∷_}
 use Prim.Native.Nat.{ℕ, _+_, _-_, _≤_, _<_}
 use native.Mathlib.Omega.{arith}
-use lib.ListN.{length, drop, getD, length-drop}
-use Rattle.std.proofs.shelf.Lists.{at-drop-more, at-drop-all, drop-more}
-use Rattle.std.specs.declared.option.Option.{Option}
+use lib.ListN.{length, drop, length-drop}
+use Rattle.std.proofs.shelf.Lists.{at-drop-all, drop-more}
 use Rattle.std.specs.declared.option.Option.the-variants.{Some, None}
-use Rattle.source.specs.declared.symbol.Sign.{Sign}
-use Rattle.source.specs.declared.symbol.Sign.the-variants.{Byte, Hole, AliasEnd}
+use Rattle.source.specs.declared.symbol.Sign.the-variants.{Byte, Hole}
 use Rattle.source.specs.declared.symbol.Symbol.{Symbol}
-use Rattle.source.specs.Symbols.{rest, symbol, template, isHole, width, widthFirst, firstSign, holeSpoiled, badHoleFrom}
+use Rattle.source.specs.Symbols.{rest, symbol, template, isHole, width, widthFirst, holeSpoiled, badHoleFrom}
 
 -- n bytes make the first of the symbols ss, the others of which are made by the bytes after them
 record Past (n : ℕ) (bs : List ℕ) (k : ℕ) (ss : List Symbol) : Type 0 where

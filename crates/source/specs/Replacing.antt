@@ -10,7 +10,6 @@ use Rattle.std.specs.declared.result.Result.the-variants.{Ok, Err}
 use Rattle.basics.specs.Checks.{refusal}
 use Rattle.basics.specs.declared.refusal.Refusal.{Refusal}
 use Rattle.basics.specs.declared.refusal.Reason.the-variants.{TooManyReplacements}
-use Rattle.source.specs.declared.symbol.Sign.{Sign}
 use Rattle.source.specs.declared.symbol.Sign.the-variants.{Byte, Hole, AliasEnd}
 use Rattle.source.specs.declared.symbol.Symbol.{Symbol}
 use Rattle.source.specs.Symbols.{aliased}

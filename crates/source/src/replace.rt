@@ -1,9 +1,8 @@
 // The alias source: the values of replaced words in front of what any other source gives.
 ghost use mathlib.Core.Path.{_≡_};
 ghost use mathlib.Core.List.{[], _∷_};
-ghost use Prim.Native.Nat.{_+_, _-_, _≤_, _<_};
+ghost use Prim.Native.Nat.{_-_, _<_};
 ghost use denote.Ref.{now};
-ghost use lib.ListN.{length, drop};
 ghost use Rattle.aliases.specs.Rows.{nameAt, valueAt};
 ghost use Rattle.aliases.specs.Tables.{rows};
 ghost use Rattle.source.specs.Symbols.{aliased, first, rest};

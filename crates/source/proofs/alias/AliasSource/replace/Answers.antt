@@ -1,13 +1,11 @@
-use mathlib.Core.Path.{_≡_, refl, sym, ap, _∙_}
-use mathlib.Core.List.{List, _∷_}
-use Prim.Native.Nat.{ℕ}
+use mathlib.Core.Path.{refl, ap, _∙_}
+use mathlib.Core.List.{_∷_}
 use native.Mathlib.Omega.{arith}
 use denote.Ref.{now}
-use Rattle.std.specs.declared.option.Option.the-variants.{Some}
 use Rattle.aliases.specs.Rows.{lookUp, valueAt}
 use Rattle.aliases.specs.Tables.{rows}
 use Rattle.source.specs.Fronts.{comingOf, openNames, valueFor}
-use Rattle.source.proofs.Replaced.{Goes, no-value, too-many, in-front, if-unnamed, if-listed, if-not-listed}
+use Rattle.source.proofs.Replaced.{no-value, too-many, in-front, if-unnamed, if-listed, if-not-listed}
 use Rattle.source.proofs.alias.AliasSource.replace.Needs as need
 
 pub returns-in-rest : need.returns-in-rest

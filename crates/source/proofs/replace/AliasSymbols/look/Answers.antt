@@ -2,7 +2,6 @@ use mathlib.Core.Path.{refl, sym, ap, _∙_}
 use native.Mathlib.Omega.{arith}
 use denote.Ref.{now}
 use lib.ListN.{getD}
-use Rattle.aliases.specs.Tables.{rows}
 use Rattle.source.specs.Symbols.{first}
 use Rattle.source.specs.declared.alias.Entry.{Entry}
 use Rattle.source.proofs.Fronted.{none, byte-first, end-first}
