@@ -60,9 +60,10 @@ pub fn quote(rt: &LibcRuntime, style: Style, explain: bool) -> Result<(), AnyErr
             let length = write_form(rt, &Single, text.as_slice())?;
             if explain {
                 let marks = count(text.as_slice(), b'\'');
+                let others = n.saturating_sub(marks);
                 eprintln!(
                     rt,
-                    "{n} bytes in, {length} bytes out: the text in single quotes, {marks} of its bytes an apostrophe, each as '\\''"
+                    "{n} bytes of text, a form of {length}: {others} in single quotes, {marks} as '\\''"
                 )?;
             }
         }
@@ -70,9 +71,10 @@ pub fn quote(rt: &LibcRuntime, style: Style, explain: bool) -> Result<(), AnyErr
             let length = write_form(rt, &Backslash, text.as_slice())?;
             if explain {
                 let lines = count(text.as_slice(), b'\n');
+                let others = n.saturating_sub(lines);
                 eprintln!(
                     rt,
-                    "{n} bytes in, {length} bytes out: a backslash before each byte, {lines} of them a newline, each in single quotes"
+                    "{n} bytes of text, a form of {length}: {others} after a backslash, {lines} in single quotes"
                 )?;
             }
         }
@@ -89,7 +91,7 @@ pub fn unquote(rt: &LibcRuntime, explain: bool) -> Result<(), AnyError> {
             let part = text.as_slice();
             rt.stdout().write_all(&part[0..length])?;
             if explain {
-                eprintln!(rt, "{n} bytes in, {length} bytes out")?;
+                eprintln!(rt, "a form of {n} bytes, {length} bytes of text")?;
             }
             Ok(())
         }
@@ -100,7 +102,7 @@ pub fn unquote(rt: &LibcRuntime, explain: bool) -> Result<(), AnyError> {
         )?.into()),
         Err(Unread::Unlawful(place)) => Err(format!(
             rt.alloc(),
-            "unlawful form: no lawful form goes on as this one does at byte {place}"
+            "unlawful form: byte {place} may not stand there"
         )?.into()),
         Err(Unread::NoRoom) => Err("the text is longer than its form".into()),
     }
