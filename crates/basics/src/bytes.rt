@@ -29,5 +29,9 @@ pub fn find(text: &[u8], byte: u8) -> Option<usize>
 pub fn tell(length: u128) -> usize
     ensures { λ r. ⌜ r ≡ told length ⌝ }
 {
-    if length < usize::MAX as u128 { length as usize } else { usize::MAX }
+    if length < usize::MAX as u128 {
+        length as usize
+    } else {
+        usize::MAX
+    }
 }

@@ -21,7 +21,13 @@ fn quote_often<Q: Quoter>(quoter: &Q, text: &[u8], page: &mut [u8]) -> u32 {
     forms
 }
 
-fn time_one<Q: Quoter>(rt: &LibcRuntime, name: &str, quoter: &Q, text: &[u8], page: &mut [u8]) -> Result<(), AnyError> {
+fn time_one<Q: Quoter>(
+    rt: &LibcRuntime,
+    name: &str,
+    quoter: &Q,
+    text: &[u8],
+    page: &mut [u8],
+) -> Result<(), AnyError> {
     let start = Instant::now(rt)?;
     let forms = quote_often(quoter, text, page);
     let spent = start.elapsed(rt)?.as_nanos();
@@ -33,13 +39,21 @@ fn time_one<Q: Quoter>(rt: &LibcRuntime, name: &str, quoter: &Q, text: &[u8], pa
         let whole = thousandths / 1000;
         let rest = thousandths % 1000;
         let each = spent / u128::from(ROUNDS);
-        eprintln!(rt, "{name} {n}: {whole}.{rest:03} ns a byte, {each} ns a text")?;
+        eprintln!(
+            rt,
+            "{name} {n}: {whole}.{rest:03} ns a byte, {each} ns a text"
+        )?;
     }
     Ok(())
 }
 
 // The front of a text, at each of three lengths.
-fn time_lengths<Q: Quoter>(rt: &LibcRuntime, name: &str, quoter: &Q, text: &[u8; 512]) -> Result<(), AnyError> {
+fn time_lengths<Q: Quoter>(
+    rt: &LibcRuntime,
+    name: &str,
+    quoter: &Q,
+    text: &[u8; 512],
+) -> Result<(), AnyError> {
     let mut page = [0u8; 4096];
     time_one(rt, name, quoter, &text[0..16], &mut page)?;
     time_one(rt, name, quoter, &text[0..128], &mut page)?;

@@ -3,7 +3,8 @@ use std::alloc::Global;
 use std::env;
 use std::error::AnyError;
 
-pub const HELP: &str = "jamisthmus quotes texts for a shell, so that no text is read as anything but one word.
+pub const HELP: &str =
+    "jamisthmus quotes texts for a shell, so that no text is read as anything but one word.
 
   jamisthmus quote [single|backslash] [--explain]
       the form of standard input, in single quotes unless backslash is asked for
@@ -42,7 +43,8 @@ fn parse_quote(words: env::Args<Global>) -> Result<Command, AnyError> {
             "single" => style = Style::Single,
             "backslash" => style = Style::Backslash,
             "--explain" => explain = true,
-            _ => return Err("quote takes single or backslash, and --explain; the text comes on standard input".into()),
+            _ =>
+                return Err("quote takes single or backslash, and --explain; the text comes on standard input".into()),
         }
     }
     Ok(Command::Quote { style, explain })
@@ -53,7 +55,8 @@ fn parse_unquote(words: env::Args<Global>) -> Result<Command, AnyError> {
     for word in words {
         match word.as_str() {
             "--explain" => explain = true,
-            _ => return Err("unquote takes only --explain; the form comes on standard input".into()),
+            _ =>
+                return Err("unquote takes only --explain; the form comes on standard input".into()),
         }
     }
     Ok(Command::Unquote { explain })

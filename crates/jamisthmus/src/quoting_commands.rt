@@ -1,10 +1,10 @@
 // quote and unquote.
+use crate::command::Style;
 use basics::bytes::count;
 use basics::bytes::find;
 use basics::refusal::Reason;
 use basics::refusal::Refusal;
 use basics::refusal::RefusalDisplay;
-use crate::command::Style;
 use quoting::backslash::Backslash;
 use quoting::backslash::BackslashLawful;
 use quoting::backslash::BackslashQuoter;
@@ -27,7 +27,11 @@ fn read_input(rt: &LibcRuntime) -> Result<Vec<u8>, AnyError> {
 }
 
 // Writes the form of the text to standard output, once it was read back as the text.
-fn write_form<Q: LawfulQuoter>(rt: &LibcRuntime, quoter: &Q, text: &[u8]) -> Result<usize, AnyError> {
+fn write_form<Q: LawfulQuoter>(
+    rt: &LibcRuntime,
+    quoter: &Q,
+    text: &[u8],
+) -> Result<usize, AnyError> {
     let length = quoter.measure(text);
     let mut page = vec![in rt.alloc(); 0u8; length]?;
     let mut back = vec![in rt.alloc(); 0u8; text.len()]?;
@@ -41,8 +45,14 @@ fn write_form<Q: LawfulQuoter>(rt: &LibcRuntime, quoter: &Q, text: &[u8]) -> Res
 pub fn quote(rt: &LibcRuntime, style: Style, explain: bool) -> Result<(), AnyError> {
     let text = read_input(rt)?;
     if let Some(place) = find(text.as_slice(), 0) {
-        let refusal = Refusal { reason: Reason::ZeroByte, place };
-        return Err(format!(rt.alloc(), "refused {refusal}: no word of a shell can hold it")?.into());
+        let refusal = Refusal {
+            reason: Reason::ZeroByte,
+            place,
+        };
+        return Err(format!(
+            rt.alloc(),
+            "refused {refusal}: no word of a shell can hold it"
+        )?.into());
     }
     let n = text.len();
     match style {
@@ -50,14 +60,22 @@ pub fn quote(rt: &LibcRuntime, style: Style, explain: bool) -> Result<(), AnyErr
             let length = write_form(rt, &Single, text.as_slice())?;
             if explain {
                 let marks = count(text.as_slice(), b'\'');
-                eprintln!(rt, "{n} bytes in, {length} bytes out: the text in single quotes, {marks} of its bytes an apostrophe, each as '\\''")?;
+                let others = n.saturating_sub(marks);
+                eprintln!(
+                    rt,
+                    "{n} bytes of text, a form of {length}: {others} in single quotes, {marks} as '\\''"
+                )?;
             }
         }
         Style::Backslash => {
             let length = write_form(rt, &Backslash, text.as_slice())?;
             if explain {
                 let lines = count(text.as_slice(), b'\n');
-                eprintln!(rt, "{n} bytes in, {length} bytes out: a backslash before each byte, {lines} of them a newline, each in single quotes")?;
+                let others = n.saturating_sub(lines);
+                eprintln!(
+                    rt,
+                    "{n} bytes of text, a form of {length}: {others} after a backslash, {lines} in single quotes"
+                )?;
             }
         }
     }
@@ -73,13 +91,19 @@ pub fn unquote(rt: &LibcRuntime, explain: bool) -> Result<(), AnyError> {
             let part = text.as_slice();
             rt.stdout().write_all(&part[0..length])?;
             if explain {
-                eprintln!(rt, "{n} bytes in, {length} bytes out")?;
+                eprintln!(rt, "a form of {n} bytes, {length} bytes of text")?;
             }
             Ok(())
         }
         Err(Unread::Unlawful(0)) if n == 0 => Err("unlawful form: it is empty".into()),
-        Err(Unread::Unlawful(place)) if place == n => Err(format!(rt.alloc(), "unlawful form: it breaks off at its end, byte {place}")?.into()),
-        Err(Unread::Unlawful(place)) => Err(format!(rt.alloc(), "unlawful form: no lawful form goes on as this one does at byte {place}")?.into()),
+        Err(Unread::Unlawful(place)) if place == n => Err(format!(
+            rt.alloc(),
+            "unlawful form: it breaks off at its end, byte {place}"
+        )?.into()),
+        Err(Unread::Unlawful(place)) => Err(format!(
+            rt.alloc(),
+            "unlawful form: byte {place} may not stand there"
+        )?.into()),
         Err(Unread::NoRoom) => Err("the text is longer than its form".into()),
     }
 }

@@ -38,8 +38,9 @@ pieces-length text = omega (arith, joined-length escaped newline 2 1 escaped-len
 pieces-deliver : (text : List ℕ) → delivered Bare (joined escaped text) ≡ Some text
 pieces-deliver [] = refl
 pieces-deliver (b ∷ text) = elim (cases-eq b newline) [
-    inl e ↦ rw (escaped-newline b e, e) (ap (with-byte newline) (pieces-deliver text))
-  | inr n ↦ rw (escaped-other b n) (delivers Escaped b (escaped-byte b n) (joined escaped text) ∙ ap (with-byte b) (pieces-deliver text)) ]
+  | inl e ↦ rw (escaped-newline b e, e) (ap (with-byte newline) (pieces-deliver text))
+  | inr n ↦ rw (escaped-other b n) (delivers Escaped b (escaped-byte b n) (joined escaped text) ∙ ap (with-byte b) (pieces-deliver text))
+]
 
 pub backslashed-is : (text : List ℕ) → 0 < length text → backslashed text ≡ joined escaped text
 backslashed-is [] h = absurd (omega arith)

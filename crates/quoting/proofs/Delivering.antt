@@ -22,8 +22,9 @@ pub record Next (text : List ℕ) (at b : ℕ) (rest : Option (List ℕ)) : Type
 pub next-byte : (text : List ℕ) (at b : ℕ) (rest : Option (List ℕ)) → with-byte b rest ≡ Some (drop at text) → Next text at b rest
 next-byte text at b None e = let z : _≡_ {A = ℕ} 0 1 = cc in absurd (omega arith)
 next-byte text at b (Some u) e = elim (cases-lt at (length text)) [
-    inl h ↦ (let m = drop-more text at 0 h in record { within = h; is-byte = cc; is-rest = cc })
-  | inr h ↦ (let m = drop-all at text h in let z : _≡_ {A = ℕ} 0 1 = cc in absurd (omega arith)) ]
+  | inl h ↦ (let m = drop-more text at 0 h in record { within = h; is-byte = cc; is-rest = cc })
+  | inr h ↦ (let m = drop-all at text h in let z : _≡_ {A = ℕ} 0 1 = cc in absurd (omega arith))
+]
 
 -- where a form ends, all of its text was delivered
 pub all-delivered : (text : List ℕ) (at : ℕ) (s : State) → ended s ≡ Some (drop at text) → length text ≤ at

@@ -48,6 +48,7 @@ judging-all (b ∷ form) h = by-text (delivered Bare (b ∷ form))
     by-test : (t : Bool) (text : List ℕ) → counted (cond t (Ok text) (Err (longest (length text)))) ≡ cond t (Ok (length text)) (Err (longest (length text)))
     by-test true text = refl
     by-test false text = refl
+
     by-text : (o : Option (List ℕ)) → counted (judged (b ∷ form) o) ≡ concluded (length (b ∷ form)) 0 o (0 + lawful-bytes Bare (b ∷ form))
     by-text None = ap (λ x. Err x) (omega arith)
     by-text (Some text) =

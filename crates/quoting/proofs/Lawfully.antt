@@ -28,11 +28,12 @@ unquoted-lawful text [] e = let z : _≡_ {A = ℕ} 0 1 = cc in absurd (omega ar
 unquoted-lawful text (b ∷ form) e = by-text (delivered Bare (b ∷ form)) refl e
   where
     by-test : (got : List ℕ) (t : Bool) → delivered Bare (b ∷ form) ≡ Some got → leb (length (b ∷ form)) (longest (length got)) ≡ t
-      → cond t (Ok got) (Err (longest (length got))) ≡ Ok text → LawfulForm text (b ∷ form)
+        → cond t (Ok got) (Err (longest (length got))) ≡ Ok text → LawfulForm text (b ∷ form)
     by-test got true d h q =
         let same : got ≡ text = cc in
         record { some = omega arith; reads = d ∙ ap (λ x. Some x) same; short = omega (arith, leb-true (length (b ∷ form)) (longest (length got)) h, ap length same) }
     by-test got false d h q = let z : _≡_ {A = ℕ} 0 1 = cc in absurd (omega arith)
+
     by-text : (o : Option (List ℕ)) → delivered Bare (b ∷ form) ≡ o → judged (b ∷ form) o ≡ Ok text → LawfulForm text (b ∷ form)
     by-text None d q = let z : _≡_ {A = ℕ} 0 1 = cc in absurd (omega arith)
     by-text (Some got) d q = by-test got (leb (length (b ∷ form)) (longest (length got))) d refl q
@@ -42,9 +43,10 @@ takes-lawful-forms text form = (lawful-unquoted text form, unquoted-lawful text 
 
 -- with a lawful quoter the text comes back
 pub returned : (form : List ℕ → List ℕ) (text page part after : List ℕ) (said : Result ℕ Unread)
-  → said ≡ told-back (form text) page part → after ≡ left-back (form text) page part → Lawful form → Returns form text page part after said
+    → said ≡ told-back (form text) page part → after ≡ left-back (form text) page part → Lawful form → Returns form text page part after said
 returned form text page part after said s a lawful free fits room =
     let is : unquoted (form text) ≡ Ok text = lawful-unquoted text (form text) (lawful text free) in
-    let roomy = le-leb (length (form text)) (length page) fits in
-    ( s ∙ cond-true _ _ _ roomy ∙ ap (λ r. answered r (length part)) is ∙ cond-true _ _ _ (le-leb (length text) (length part) room)
-    , a ∙ cond-true _ _ _ roomy ∙ ap (λ r. left r part) is ∙ written-fits text part room )
+    let roomy = le-leb (length (form text)) (length page) fits in (
+      s ∙ cond-true _ _ _ roomy ∙ ap (λ r. answered r (length part)) is ∙ cond-true _ _ _ (le-leb (length text) (length part) room),
+      a ∙ cond-true _ _ _ roomy ∙ ap (λ r. left r part) is ∙ written-fits text part room,
+    )

@@ -39,8 +39,9 @@ single-length text = omega (arith, length-append (joined inside text) (codes "'"
 pieces-deliver : (text : List ℕ) → delivered SingleQuoted (joined inside text ++ codes "'") ≡ Some text
 pieces-deliver [] = refl
 pieces-deliver (b ∷ text) = elim (cases-eq b single-quote) [
-    inl e ↦ rw (inside-quote b e, e) (ap (with-byte single-quote) (pieces-deliver text))
-  | inr n ↦ rw (inside-other b n) (delivers SingleQuoted b (single-other b n) (joined inside text ++ codes "'") ∙ ap (with-byte b) (pieces-deliver text)) ]
+  | inl e ↦ rw (inside-quote b e, e) (ap (with-byte single-quote) (pieces-deliver text))
+  | inr n ↦ rw (inside-other b n) (delivers SingleQuoted b (single-other b n) (joined inside text ++ codes "'") ∙ ap (with-byte b) (pieces-deliver text))
+]
 
 pub single-lawful : Lawful single
 single-lawful text free = record {

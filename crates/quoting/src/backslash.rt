@@ -3,11 +3,11 @@ ghost use mathlib.Core.Path.{_≡_};
 ghost use lib.Dec.{leb};
 ghost use lib.ListN.{length};
 ghost use Rattle.quoting.specs.Backslashes.{backslashed};
+use crate::quoter::LawfulQuoter;
+use crate::quoter::Quoter;
 use basics::bytes::count;
 use basics::bytes::tell;
 use basics::page::put;
-use crate::quoter::LawfulQuoter;
-use crate::quoter::Quoter;
 
 // Writes a backslash before each byte, but a newline as ' newline ', and the empty text as ''.
 #[derive(Clone, Copy, Debug)]

@@ -3,5 +3,7 @@ pub mod backslash;
 pub mod form;
 pub mod quoter;
 pub mod single;
+#[cfg(test)]
+mod tests;
 pub mod trip;
 pub mod unquote;

@@ -15,6 +15,7 @@ use tally::Tally;
 
 // How many texts of a random length and random bytes are tried, and how many damages of each form.
 const RANDOM_TEXTS: u32 = 4000;
+
 const DAMAGES: u32 = 60;
 
 // All texts of one byte and of two bytes that are free of byte 0. Each form of one byte's text is damaged in every way.
@@ -51,9 +52,20 @@ fn try_quoter<Q: LawfulQuoter>(rt: &LibcRuntime, name: &str, quoter: &Q) -> Resu
     tally.try_text(quoter, b"");
     try_short(&mut tally, quoter);
     try_random(&mut tally, quoter, &mut random);
-    let Tally { texts, differ, damages, unlawful, other, same, wrong } = tally;
+    let Tally {
+        texts,
+        differ,
+        damages,
+        unlawful,
+        other,
+        same,
+        wrong,
+    } = tally;
     println!(rt, "{name}: {texts} texts there and back, {differ} differ")?;
-    println!(rt, "{name}: {damages} damaged forms, {unlawful} unlawful, {other} of another text, {same} as before, {wrong} wrong")?;
+    println!(
+        rt,
+        "{name}: {damages} damaged forms, {unlawful} unlawful, {other} of another text, {same} as before, {wrong} wrong"
+    )?;
     Ok(())
 }
 

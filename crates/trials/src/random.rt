@@ -21,7 +21,11 @@ impl Random {
     // A number below the limit, or 0.
     pub fn below(&mut self, limit: usize) -> usize {
         let x = self.next() >> 11;
-        if limit == 0 { 0 } else { (x % limit as u64) as usize }
+        if limit == 0 {
+            0
+        } else {
+            (x % limit as u64) as usize
+        }
     }
 
     // A byte other than 0. Half of them are bytes that quoting has to do with.

@@ -20,7 +20,15 @@ pub struct Tally {
 
 impl Tally {
     pub fn new() -> Self {
-        Tally { texts: 0, differ: 0, damages: 0, unlawful: 0, other: 0, same: 0, wrong: 0 }
+        Tally {
+            texts: 0,
+            differ: 0,
+            damages: 0,
+            unlawful: 0,
+            other: 0,
+            same: 0,
+            wrong: 0,
+        }
     }
 
     // A text there and back.
@@ -53,7 +61,8 @@ impl Tally {
         page[place] = byte;
         match unquote(&page[0..length], &mut back) {
             Err(_) => self.unlawful = self.unlawful.saturating_add(1),
-            Ok(n) if n <= LONGEST && &back[0..n] != text => self.other = self.other.saturating_add(1),
+            Ok(n) if n <= LONGEST && &back[0..n] != text => self.other = self.other
+                .saturating_add(1),
             Ok(_) => self.wrong = self.wrong.saturating_add(1),
         }
     }

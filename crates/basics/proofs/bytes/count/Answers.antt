@@ -21,7 +21,7 @@ loop-b-again c =
     let byte = c .args .byte in
     let this = one-or-none (eqb (getD text i 0) byte) in
     let more : occurrences byte (take (i + 1) text) ≡ occurrences byte (take i text) + cond (eqb (getD text i 0) byte) 1 0 =
-        sumBy-more (λ x. cond (eqb x byte) 1 0) text i 0 (c .loop-b-test .taken) in
+    sumBy-more (λ x. cond (eqb x byte) 1 0) text i 0 (c .loop-b-test .taken) in
     (omega (arith, this .1, c .loop-b .inv .0), omega (arith, more, this .0, c .loop-b .inv .1))
 
 pub returns : need.returns

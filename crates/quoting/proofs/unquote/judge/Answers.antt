@@ -14,8 +14,8 @@ returns-in-Unlawful c =
     let i = c .loop-i .i in
     let some : 0 < length form = omega arith in
     sym (judging-all form some ∙ sym (c .loop-i .inv .1)
-      ∙ at-drop-more (judging (length form) (c .loop-i .state) i (c .loop-i .n)) form i 0 (c .loop-i-test .taken)
-      ∙ judging-unlawful (length form) (c .loop-i .state) i (c .loop-i .n) (getD form i 0) (drop (i + 1) form) (sym (c .in-Unlawful .ensures tt)))
+    ∙ at-drop-more (judging (length form) (c .loop-i .state) i (c .loop-i .n)) form i 0 (c .loop-i-test .taken)
+    ∙ judging-unlawful (length form) (c .loop-i .state) i (c .loop-i .n) (getD form i 0) (drop (i + 1) form) (sym (c .in-Unlawful .ensures tt)))
 
 pub loop-i-again : need.loop-i-again
 loop-i-again c =
@@ -25,14 +25,19 @@ loop-i-again c =
     let s = c .loop-i .state in
     let here = at-drop-more (judging (length form) s i n) form i 0 (c .loop-i-test .taken) in
     elim (c .match-step .came) [
-      need.in-Passes w ↦ (omega (arith, w .n-is, c .loop-i .inv .0),
+      | need.in-Passes w ↦ (
+        omega (arith, w .n-is, c .loop-i .inv .0),
         ap (λ m. judging (length form) (c .match-step .state) (i + 1) m (drop (i + 1) form)) (w .n-is)
-        ∙ ap (λ t. judging (length form) t (i + 1) n (drop (i + 1) form)) (w .state-is)
-        ∙ sym (here ∙ judging-passes (length form) s i n (getD form i 0) (drop (i + 1) form) (w .in-Passes .next) (sym (w .in-Passes .ensures tt))) ∙ c .loop-i .inv .1)
-    | need.in-Delivers w ↦ (omega (arith, w .n-is, c .loop-i .inv .0),
+            ∙ ap (λ t. judging (length form) t (i + 1) n (drop (i + 1) form)) (w .state-is)
+            ∙ sym (here ∙ judging-passes (length form) s i n (getD form i 0) (drop (i + 1) form) (w .in-Passes .next) (sym (w .in-Passes .ensures tt))) ∙ c .loop-i .inv .1,
+      )
+      | need.in-Delivers w ↦ (
+        omega (arith, w .n-is, c .loop-i .inv .0),
         ap (λ m. judging (length form) (c .match-step .state) (i + 1) m (drop (i + 1) form)) (w .n-is)
-        ∙ ap (λ t. judging (length form) t (i + 1) (n + 1) (drop (i + 1) form)) (w .state-is)
-        ∙ sym (here ∙ judging-delivers (length form) s i n (getD form i 0) (drop (i + 1) form) (w .in-Delivers .next) (sym (w .in-Delivers .ensures tt))) ∙ c .loop-i .inv .1) ]
+            ∙ ap (λ t. judging (length form) t (i + 1) (n + 1) (drop (i + 1) form)) (w .state-is)
+            ∙ sym (here ∙ judging-delivers (length form) s i n (getD form i 0) (drop (i + 1) form) (w .in-Delivers .next) (sym (w .in-Delivers .ensures tt))) ∙ c .loop-i .inv .1,
+      )
+    ]
 
 pub returns : need.returns
 returns c =

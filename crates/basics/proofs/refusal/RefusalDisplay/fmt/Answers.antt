@@ -12,5 +12,5 @@ pub returns : need.returns
 returns g c plain ok =
     let reason = c .args .self .now .reason in
     let e = same-line (c .number-number .result) (numberOf reason) (c .number-layer .result) (layerNumber (layerOf reason)) (c .args .self .now .place) (c .words-words .result .now) (wordsOf reason)
-        (c .number-number .ensures) (c .number-layer .ensures ∙ ap layerNumber (c .layer .ensures)) (c .words-words .ensures) in
+    (c .number-number .ensures) (c .number-layer .ensures ∙ ap layerNumber (c .layer .ensures)) (c .words-words .ensures) in
     subst (λ bs. Put {W = g .W .Denot} (g .W·Write .took) (c .args .f .now) bs (c .write .last .self)) e (c .write .ensures .shows plain ok)

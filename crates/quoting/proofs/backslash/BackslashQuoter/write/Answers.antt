@@ -17,7 +17,7 @@ use Rattle.quoting.proofs.backslash.BackslashQuoter.write.Needs as need
 
 -- the pieces up to i and the next piece fit
 room : (text page : List ℕ) (i : ℕ) → leb (length (backslashed text)) (length page) ≡ true → i < length text
-  → length (joined escaped (take i text)) + length (escaped (getD text i 0)) ≤ length page
+    → length (joined escaped (take i text)) + length (escaped (getD text i 0)) ≤ length page
 room text page i fits h =
     let some : 0 < length text = omega arith in
     omega (arith, leb-true (length (backslashed text)) (length page) fits, joined-room escaped text i h, ap length (backslashed-is text some))
@@ -39,12 +39,13 @@ loop-b-again c =
     let text = c .args .text .now in
     let i = c .loop-b .b-index in
     elim (c .if-b-eq10 .came) [
-      need.then-b-eq10 w ↦ joined-put escaped [] text (c .args .part .now) (c .loop-b .part) _ i (c .loop-b .at) _ _ (c .loop-b-test .taken)
-        (escaped-newline (getD text i 0) (w .if-b-eq10 .taken)) (c .loop-b .inv .0) (c .loop-b .inv .1)
-        (w .at-is ∙ w .put-at .ensures .end) (w .part-is ∙ w .put-at .ensures .put)
-    | need.else-b-eq10 w ↦ joined-put escaped [] text (c .args .part .now) (c .loop-b .part) _ i (c .loop-b .at) _ _ (c .loop-b-test .taken)
-        (escaped-other (getD text i 0) (w .if-b-eq10 .left)) (c .loop-b .inv .0) (c .loop-b .inv .1)
-        (w .at-is ∙ w .put-at-else-b-eq10 .ensures .end) (w .part-is ∙ w .put-at-else-b-eq10 .ensures .put) ]
+      | need.then-b-eq10 w ↦ joined-put escaped [] text (c .args .part .now) (c .loop-b .part) _ i (c .loop-b .at) _ _ (c .loop-b-test .taken)
+          (escaped-newline (getD text i 0) (w .if-b-eq10 .taken)) (c .loop-b .inv .0) (c .loop-b .inv .1)
+          (w .at-is ∙ w .put-at .ensures .end) (w .part-is ∙ w .put-at .ensures .put)
+      | need.else-b-eq10 w ↦ joined-put escaped [] text (c .args .part .now) (c .loop-b .part) _ i (c .loop-b .at) _ _ (c .loop-b-test .taken)
+          (escaped-other (getD text i 0) (w .if-b-eq10 .left)) (c .loop-b .inv .0) (c .loop-b .inv .1)
+          (w .at-is ∙ w .put-at-else-b-eq10 .ensures .end) (w .part-is ∙ w .put-at-else-b-eq10 .ensures .put)
+    ]
 
 pub returns : need.returns
 returns c =
@@ -57,4 +58,5 @@ returns c =
     let fits : length (backslashed text) ≤ length page = leb-true (length (backslashed text)) (length page) said in
     record {
       said = sym said;
-      put = c .loop-b .inv .1 ∙ ap (λ t. over (joined escaped t) page) all ∙ ap (λ z. over z page) (sym is) ∙ sym (written-fits (backslashed text) page fits) }
+      put = c .loop-b .inv .1 ∙ ap (λ t. over (joined escaped t) page) all ∙ ap (λ z. over z page) (sym is) ∙ sym (written-fits (backslashed text) page fits);
+    }

@@ -10,7 +10,7 @@ use Rattle.std.proofs.shelf.Lists.{take-all}
 use Rattle.std.proofs.shelf.Tests.{leb-true}
 use Rattle.std.specs.Joined.{joined}
 use Rattle.basics.specs.Pages.{over, written}
-use Rattle.basics.proofs.Over.{put-more, over-over, written-fits, set-paste}
+use Rattle.basics.proofs.Over.{put-more, over-over, written-fits, set-pasted}
 use Rattle.quoting.specs.Singles.{inside, single}
 use Rattle.quoting.proofs.Joins.{joined-room, joined-put}
 use Rattle.quoting.proofs.Singly.{inside-quote, inside-other}
@@ -18,7 +18,7 @@ use Rattle.quoting.proofs.single.SingleQuoter.write.Needs as need
 
 -- the first ', the pieces up to i, the next piece and the last ' all fit
 room : (text page : List ℕ) (i : ℕ) → leb (length (single text)) (length page) ≡ true → i < length text
-  → length (joined inside (take i text)) + length (inside (getD text i 0)) + 2 ≤ length page
+    → length (joined inside (take i text)) + length (inside (getD text i 0)) + 2 ≤ length page
 room text page i fits h =
     omega (arith, leb-true (length (single text)) (length page) fits, joined-room inside text i h, length-append (joined inside text) (codes "'"))
 
@@ -42,13 +42,14 @@ loop-b-again c =
     let text = c .args .text .now in
     let i = c .loop-b .b-index in
     elim (c .if-b-eq39 .came) [
-      need.then-b-eq39 w ↦ joined-put inside (codes "'") text (c .put-at .last .page) (c .loop-b .part) _ i (c .loop-b .at) _ _ (c .loop-b-test .taken)
-        (inside-quote (getD text i 0) (w .if-b-eq39 .taken)) (c .loop-b .inv .0) (c .loop-b .inv .1)
-        (w .at-is ∙ w .put-at-then-b-eq39 .ensures .end) (w .part-is ∙ w .put-at-then-b-eq39 .ensures .put)
-    | need.else-b-eq39 w ↦ joined-put inside (codes "'") text (c .put-at .last .page) (c .loop-b .part) _ i (c .loop-b .at) _ _ (c .loop-b-test .taken)
-        (inside-other (getD text i 0) (w .if-b-eq39 .left)) (c .loop-b .inv .0) (c .loop-b .inv .1)
-        (w .at-is) (w .part-is ∙ set-paste (c .loop-b .part) (c .loop-b .at) (getD text i 0)
-          (omega (arith, room text (c .args .part .now) i (sym (c .has-room .ensures) ∙ c .if-not-has-room .left) (c .loop-b-test .taken), ap length (inside-other (getD text i 0) (w .if-b-eq39 .left))))) ]
+      | need.then-b-eq39 w ↦ joined-put inside (codes "'") text (c .put-at .last .page) (c .loop-b .part) _ i (c .loop-b .at) _ _ (c .loop-b-test .taken)
+          (inside-quote (getD text i 0) (w .if-b-eq39 .taken)) (c .loop-b .inv .0) (c .loop-b .inv .1)
+          (w .at-is ∙ w .put-at-then-b-eq39 .ensures .end) (w .part-is ∙ w .put-at-then-b-eq39 .ensures .put)
+      | need.else-b-eq39 w ↦ joined-put inside (codes "'") text (c .put-at .last .page) (c .loop-b .part) _ i (c .loop-b .at) _ _ (c .loop-b-test .taken)
+          (inside-other (getD text i 0) (w .if-b-eq39 .left)) (c .loop-b .inv .0) (c .loop-b .inv .1)
+          (w .at-is) (w .part-is ∙ set-pasted (c .loop-b .part) (c .loop-b .at) (getD text i 0)
+          (omega (arith, room text (c .args .part .now) i (sym (c .has-room .ensures) ∙ c .if-not-has-room .left) (c .loop-b-test .taken), ap length (inside-other (getD text i 0) (w .if-b-eq39 .left)))))
+    ]
 
 pub put-requires : need.put-requires
 put-requires c κs =
@@ -64,8 +65,8 @@ returns c =
     let said : leb (length (single text)) (length page) ≡ true = sym (c .has-room .ensures) ∙ c .if-not-has-room .left in
     let fits : length (single text) ≤ length page = leb-true (length (single text)) (length page) said in
     let here : c .put .last .page ≡ over (single text) (c .put-at .last .page) =
-        c .put .ensures .put ∙ put-more (codes "'" ++ joined inside (take (c .loop-b .b-index) text)) (codes "'") (c .put-at .last .page) (c .loop-b .part) (c .loop-b .at) (c .loop-b .inv .1) (c .loop-b .inv .0)
-        ∙ ap (λ t. over (single t) (c .put-at .last .page)) all in
+    c .put .ensures .put ∙ put-more (codes "'" ++ joined inside (take (c .loop-b .b-index) text)) (codes "'") (c .put-at .last .page) (c .loop-b .part) (c .loop-b .at) (c .loop-b .inv .1) (c .loop-b .inv .0)
+    ∙ ap (λ t. over (single t) (c .put-at .last .page)) all in
     let first : over (single text) (c .put-at .last .page) ≡ over (single text) page =
-        ap (over (single text)) (c .put-at .ensures .put) ∙ over-over (single text) (codes "'") page (omega arith) in
+    ap (over (single text)) (c .put-at .ensures .put) ∙ over-over (single text) (codes "'") page (omega arith) in
     record { said = sym said; put = here ∙ first ∙ sym (written-fits (single text) page fits) }

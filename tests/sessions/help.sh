@@ -1,0 +1,3 @@
+"$BIN"
+"$BIN" help | cmp - <("$BIN" --help) && echo same
+"$BIN" -h > /dev/null
