@@ -1,0 +1,4 @@
+pub mod Stages
+pub mod Roles
+pub mod Kinds
+pub mod Bodies

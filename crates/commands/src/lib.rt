@@ -1,0 +1,8 @@
+// How tokens make commands: stages, roles, reserved words, redirections, here-documents, frames and items.
+pub mod awaited;
+pub mod frame;
+pub mod item;
+pub mod line;
+pub mod role;
+pub mod sort;
+pub mod stage;

@@ -1,0 +1,12 @@
+// A line of a here-document's body, as far as it is read.
+#[derive(Clone, Copy, Debug, PartialEq, Eq)]
+pub enum Line {
+    // no byte of it is read
+    Fresh,
+    // only leading tabs, which do not count
+    Tabs,
+    // so far it is that many bytes of the delimiter
+    Same(usize),
+    // it is not the delimiter
+    Other,
+}

@@ -1,0 +1,5 @@
+pub mod Bytes
+pub mod Operators
+pub mod Letters
+pub mod Openings
+pub mod Expansions
