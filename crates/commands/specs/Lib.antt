@@ -2,3 +2,4 @@ pub mod Stages
 pub mod Roles
 pub mod Kinds
 pub mod Bodies
+pub mod Redirections

@@ -1,0 +1,9 @@
+pub mod States
+pub mod Steps
+pub mod Laid
+pub mod Words
+pub mod Operators
+pub mod Expansions
+pub mod Text
+pub mod Holes
+pub mod Moves

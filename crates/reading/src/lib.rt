@@ -1,0 +1,3 @@
+// The definition of reading, and its laws.
+pub mod act;
+pub mod mode;
