@@ -7,3 +7,8 @@ pub mod Expansions
 pub mod Text
 pub mod Holes
 pub mod Moves
+pub mod Readings
+pub mod Placed
+pub mod Items
+pub mod Unplaced
+pub mod Listed
