@@ -81,6 +81,10 @@ wordsOf Unbound = codes "hole not bound"
 wordsOf NoSuchHole = codes "no such hole"
 wordsOf ScriptTooLong = codes "script too long"
 
--- as it is printed: number, layer, place and words, parted by blanks
+-- four words parted by blanks: three numbers and a text
+abbrev pub line : ℕ → ℕ → ℕ → List ℕ → List ℕ
+line number layer place words = decimal number ++ (32 ∷ (decimal layer ++ (32 ∷ (decimal place ++ (32 ∷ words)))))
+
+-- as a refusal is printed: number, layer, place and words
 abbrev pub shownOf : Refusal → List ℕ
-shownOf x = decimal (numberOf (x .reason)) ++ 32 ∷ decimal (layerNumber (layerOf (x .reason))) ++ 32 ∷ decimal (x .place) ++ 32 ∷ wordsOf (x .reason)
+shownOf x = line (numberOf (x .reason)) (layerNumber (layerOf (x .reason))) (x .place) (wordsOf (x .reason))

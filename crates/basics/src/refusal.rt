@@ -1,6 +1,8 @@
 // Refusals: why a call was turned away, in which layer, and at which place.
 ghost use mathlib.Core.Path.{_≡_};
-ghost use Rattle.basics.specs.Refusals.{numberOf, layerOf, layerNumber, wordsOf};
+ghost use Rattle.std.specs.declared.option.Option.the-variants.{Some};
+ghost use Rattle.basics.specs.Refusals.{numberOf, layerOf, layerNumber, wordsOf, shownOf};
+use std::fmt;
 
 // Why a call was refused. The first thirteen reasons lie in the input, the others in the state of an order.
 #[derive(Clone, Copy, Debug, PartialEq, Eq)]
@@ -144,5 +146,18 @@ impl Refusal {
         ensures { λ r. ⌜ now r ≡ wordsOf (self .reason) ⌝ }
     {
         self.reason.words()
+    }
+}
+
+// A refusal as it is printed: its number, layer, place and words, parted by blanks.
+pub impl fmt::Display for Refusal as RefusalDisplay {
+    ghost shown = { λ x. Some (shownOf x) };
+
+    fn fmt<W: fmt::Write>(&self, f: &mut fmt::Formatter<W>) -> fmt::Result {
+        let number = self.number();
+        let layer = self.layer().number();
+        let place = self.place;
+        let words = self.words();
+        write!(f, "{number} {layer} {place} {words}")
     }
 }
