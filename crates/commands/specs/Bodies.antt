@@ -4,7 +4,8 @@ use mathlib.Core.List.{List, [], _∷_, _++_}
 use Prim.Native.Nat.{ℕ, _+_}
 use lib.Dec.{eqb, ltb, leb}
 use lib.ListN.{length, take, getD}
-use Rattle.tokens.specs.Bytes.{newline, tab}
+use Rattle.basics.specs.Bytes.{newline}
+use Rattle.tokens.specs.Bytes.{tab}
 use Rattle.commands.specs.declared.line.Line.{Line}
 use Rattle.commands.specs.declared.line.Line.the-variants.{Fresh, Tabs, Same, Other}
 

@@ -62,34 +62,36 @@ abbrev pub ordinary : State → Step
 ordinary i = elim (topOf (i .frames)) as (λ _. Step) [ top.Command ↦ bare dollar WordAtDollar i | top.Single ↦ quoted dollar WordAtDollar i | top.Double ↦ quoted dollar WordAtDollar i ]
 
 -- what is begun is settled, since what comes does not go on with it
+abbrev pub settled : Begun → State → Step
+settled begun.Nothing i = done i
+settled begun.Dollar i = ordinary (set-begun begun.Nothing i)
+settled begun.Paren i = substitutes i
+settled begun.Name i = done (set-begun begun.Nothing i)
+settled begun.Brace i = refuse reason.ExpansionNotTaken at.Dollar
+settled begun.BraceName i = refuse reason.ExpansionNotTaken at.Dollar
+settled (begun.Operator o) i = give o i
+
 abbrev pub settle : State → Step
-settle i = elim (i .begun) as (λ _. Step) [
-      begun.Nothing ↦ done i
-    | begun.Dollar ↦ ordinary (set-begun begun.Nothing i)
-    | begun.Paren ↦ substitutes i
-    | begun.Name ↦ done (set-begun begun.Nothing i)
-    | begun.Brace ↦ refuse reason.ExpansionNotTaken at.Dollar
-    | begun.BraceName ↦ refuse reason.ExpansionNotTaken at.Dollar
-    | begun.Operator o ↦ give o i
-    ]
+settle i = settled (i .begun) i
 
 abbrev pub or-given : Operator → Option Operator → State → Step
 or-given o None i = give o i
 or-given o (Some p) i = begun-or-given p i
 
 -- what is begun goes on with the byte b
+abbrev pub gone-on : Begun → ℕ → State → Step
+gone-on begun.Nothing b i = done i
+gone-on begun.Dollar b i =
+    cond (eqb b open-paren) (done (set-begun begun.Paren i))
+    (cond (eqb b open-brace) (done (set-begun begun.Brace i))
+    (expanded (dollar ∷ b ∷ []) (cond (isNameStart b) begun.Name begun.Nothing) i))
+gone-on begun.Paren b i = refuse reason.ExpansionNotTaken at.Dollar
+gone-on begun.Name b i = expanded (b ∷ []) begun.Name i
+gone-on begun.Brace b i = cond (isNameStart b) (spelled (dollar ∷ open-brace ∷ b ∷ []) begun.BraceName i) (refuse reason.ExpansionNotTaken at.Dollar)
+gone-on begun.BraceName b i =
+    cond (isNameByte b) (spelled (b ∷ []) begun.BraceName i)
+    (cond (eqb b close-brace) (expanded (b ∷ []) begun.Nothing i) (refuse reason.ExpansionNotTaken at.Dollar))
+gone-on (begun.Operator o) b i = or-given o (lengthened (classOf b) o) i
+
 abbrev pub go-on : ℕ → State → Step
-go-on b i = elim (i .begun) as (λ _. Step) [
-      begun.Nothing ↦ done i
-    | begun.Dollar ↦
-        cond (eqb b open-paren) (done (set-begun begun.Paren i))
-        (cond (eqb b open-brace) (done (set-begun begun.Brace i))
-        (expanded (dollar ∷ b ∷ []) (cond (isNameStart b) begun.Name begun.Nothing) i))
-    | begun.Paren ↦ refuse reason.ExpansionNotTaken at.Dollar
-    | begun.Name ↦ expanded (b ∷ []) begun.Name i
-    | begun.Brace ↦ cond (isNameStart b) (spelled (dollar ∷ open-brace ∷ b ∷ []) begun.BraceName i) (refuse reason.ExpansionNotTaken at.Dollar)
-    | begun.BraceName ↦
-        cond (isNameByte b) (spelled (b ∷ []) begun.BraceName i)
-        (cond (eqb b close-brace) (expanded (b ∷ []) begun.Nothing i) (refuse reason.ExpansionNotTaken at.Dollar))
-    | begun.Operator o ↦ or-given o (lengthened (classOf b) o) i
-    ]
+go-on b i = gone-on (i .begun) b i

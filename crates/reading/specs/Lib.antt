@@ -12,3 +12,5 @@ pub mod Placed
 pub mod Items
 pub mod Unplaced
 pub mod Listed
+pub mod Filled
+pub mod Laws

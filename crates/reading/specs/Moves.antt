@@ -8,7 +8,8 @@ use Rattle.std.specs.declared.option.Option.the-variants.{Some, None}
 use Rattle.basics.specs.declared.refusal.Reason.the-variants as reason
 use Rattle.tokens.specs.declared.top.Top.{Top}
 use Rattle.tokens.specs.declared.top.Top.the-variants as top
-use Rattle.tokens.specs.Bytes.{classOf, endsWord, redirects, newline, backslash}
+use Rattle.basics.specs.Bytes.{newline, backslash}
+use Rattle.tokens.specs.Bytes.{classOf, endsWord, redirects}
 use Rattle.tokens.specs.Openings.{isNumber}
 use Rattle.tokens.specs.Expansions.{isNothing}
 use Rattle.commands.specs.declared.frame.Frame.{Frame}

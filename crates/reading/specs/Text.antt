@@ -12,7 +12,8 @@ use Rattle.tokens.specs.declared.class.Class.{Class}
 use Rattle.tokens.specs.declared.class.Class.the-variants as class
 use Rattle.tokens.specs.declared.operator.Operator.the-variants as op
 use Rattle.tokens.specs.declared.letter.Mark.the-variants as mark
-use Rattle.tokens.specs.Bytes.{classOf, newline, single-quote, double-quote, backslash, dollar, backquote}
+use Rattle.basics.specs.Bytes.{newline, single-quote, backslash}
+use Rattle.tokens.specs.Bytes.{classOf, double-quote, dollar, backquote}
 use Rattle.tokens.specs.Expansions.{goesOn, isQuotable}
 use Rattle.commands.specs.declared.frame.Frame.{Frame}
 use Rattle.commands.specs.declared.frame.Frame.the-variants as frame

@@ -9,7 +9,7 @@ use Rattle.std.specs.declared.option.Option.the-variants.{Some, None}
 use Rattle.basics.specs.declared.refusal.Reason.the-variants as reason
 use Rattle.tokens.specs.declared.begun.Begun.the-variants as begun
 use Rattle.tokens.specs.declared.letter.Mark.the-variants.{Bare, Quoted}
-use Rattle.tokens.specs.Bytes.{newline}
+use Rattle.basics.specs.Bytes.{newline}
 use Rattle.tokens.specs.Letters.{marked}
 use Rattle.tokens.specs.Openings.{opened, further, isNumber, kept}
 use Rattle.tokens.specs.Expansions.{among}

@@ -2,14 +2,12 @@
 use mathlib.Core.Bool.{Bool, true, false, cond, _||_, _&&_}
 use Prim.Native.Nat.{ℕ}
 use lib.Dec.{eqb, leb}
+use Rattle.basics.specs.Bytes.{newline, single-quote, backslash}
 use Rattle.tokens.specs.declared.class.Class.{Class}
 use Rattle.tokens.specs.declared.class.Class.the-variants as class
 
 abbrev pub tab : ℕ
 tab = 9
-
-abbrev pub newline : ℕ
-newline = 10
 
 abbrev pub space : ℕ
 space = 32
@@ -25,9 +23,6 @@ dollar = 36
 
 abbrev pub amp : ℕ
 amp = 38
-
-abbrev pub single-quote : ℕ
-single-quote = 39
 
 abbrev pub open-paren : ℕ
 open-paren = 40
@@ -49,9 +44,6 @@ equals = 61
 
 abbrev pub great : ℕ
 great = 62
-
-abbrev pub backslash : ℕ
-backslash = 92
 
 abbrev pub underscore : ℕ
 underscore = 95
