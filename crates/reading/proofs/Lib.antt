@@ -1,3 +1,4 @@
 pub mod Runs
 pub mod Quoting
 pub mod Apart
+pub mod Filling

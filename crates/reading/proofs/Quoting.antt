@@ -7,6 +7,7 @@ use native.Mathlib.Omega.{arith}
 use lib.Dec.{eqb}
 use Rattle.std.specs.declared.option.Option.{Option}
 use Rattle.std.specs.declared.option.Option.the-variants.{Some, None}
+use Rattle.basics.specs.declared.refusal.Reason.{Reason}
 use Rattle.basics.specs.declared.refusal.Reason.the-variants.{TooDeep}
 use Rattle.basics.specs.Bytes.{newline, single-quote, backslash}
 use Rattle.tokens.specs.declared.begun.Begun.{Begun}
@@ -38,12 +39,12 @@ use Rattle.reading.specs.Holes.{open-to-hole, not-taken, taken-if, hole-at, ho
 use Rattle.reading.specs.Moves.{byte, byte-in, byte-escaped}
 use Rattle.reading.specs.Readings.{Turn, goes, fails}
 use Rattle.reading.specs.Items.{turned, turn, Written, letter, writes}
-use Rattle.reading.specs.Unplaced.{told, of-turn, unplaced}
+use Rattle.reading.specs.Unplaced.{told, of-turn, reason-of, unplaced}
 use Rattle.reading.specs.Filled.{quoted}
 use Rattle.reading.specs.Laws.{Quotes, Form-is-one-words-letters, Fills}
 use Rattle.reading.proofs.Runs.{forms-give-letters, fills}
 
-failed-went : {out a : List Written} {w : Control} {f : Fault} → _≡_ {A = Turn Control Written Fault} (fails a f) (goes out w) → ⊥
+failed-went : {out a : List Written} {w : Control} {f : Reason} → _≡_ {A = Turn Control Written Reason} (fails a f) (goes out w) → ⊥
 failed-went h = let z : _≡_ {A = ℕ} 0 1 = cc in omega arith
 
 false-true : _≡_ {A = Bool} false true → ⊥
@@ -62,21 +63,21 @@ told-more [] b = refl
 told-more (x ∷ a) b = ap (λ l. writes x ++ l) (told-more a b) ∙ sym (append-assoc (writes x) (told writes a) (told writes b))
 
 -- what is told of an outcome
-abbrev tell : Outcome → Turn Control Written Fault
-tell x = of-turn writes (turned false x)
+abbrev tell : Outcome → Turn Control Written Reason
+tell x = of-turn writes reason-of (turned false x)
 
-abbrev told-first : List Written → Turn Control Written Fault → Turn Control Written Fault
+abbrev told-first : List Written → Turn Control Written Reason → Turn Control Written Reason
 told-first out (goes b c) = goes (out ++ b) c
 told-first out (fails b f) = fails (out ++ b) f
 
 tell-after : (a : List Act) (x : Outcome) → tell (after a x) ≡ told-first (told writes a) (tell x)
 tell-after a (went b i) = ap (λ l. goes l (calm i)) (told-more a b)
-tell-after a (failed b f) = ap (λ l. fails l f) (told-more a b)
+tell-after a (failed b f) = ap (λ l. fails l (f .reason)) (told-more a b)
 
 -- that a word begins is not told
 tell-silent : (x : Act) → writes x ≡ [] → (y : Outcome) → tell (after (x ∷ []) y) ≡ tell y
 tell-silent x e (went b i) = ap (λ l. goes (l ++ told writes b) (calm i)) e
-tell-silent x e (failed b f) = ap (λ l. fails (l ++ told writes b) f) e
+tell-silent x e (failed b f) = ap (λ l. fails (l ++ told writes b) (f .reason)) e
 
 tell-starting : (m : Mode) (x : Act) → writes x ≡ [] → (s : Step) → tell (outcome (starting m x s)) ≡ tell (outcome s)
 tell-starting mode.Gap x e s = tell-silent x e (outcome s)
@@ -144,7 +145,7 @@ module _ (out : List Written) (w : Control) where
   ready-unit (begun.Operator o) i h = (h, refl)
 
   abbrev Ready : State → (ℕ → Move) → Type 0
-  Ready i f = Took out w (outcome (hole-settled i)) × (of-turn writes (turn (f single-quote)) ≡ tell (outcome (quote-settled i))) × (of-turn writes (turn (f backslash)) ≡ goes [] (backed i))
+  Ready i f = Took out w (outcome (hole-settled i)) × (of-turn writes reason-of (turn (f single-quote)) ≡ tell (outcome (quote-settled i))) × (of-turn writes reason-of (turn (f backslash)) ≡ goes [] (backed i))
 
   ready-in : (i : State) (r : Region) → Took out w (outcome (hole-in i r)) → Ready i (λ b. byte-in b i r)
   ready-in i region.Text h = let r = ready-unit (i .begun) i h in (r .0, ap (λ (y : Bool). tell (outcome (cond y (go-on single-quote i) (quote-settled i)))) (r .1), refl)
@@ -156,7 +157,7 @@ module _ (out : List Written) (w : Control) where
   never-escaped (went a j) h = failed-went h
   never-escaped (failed a f) h = failed-went h
 
-  ready : (e : Bool) (i : State) → of-turn writes (turn (hole (record { escape = e; at = i }))) ≡ goes out w → Ready i (λ b. byte b (record { escape = e; at = i }))
+  ready : (e : Bool) (i : State) → of-turn writes reason-of (turn (hole (record { escape = e; at = i }))) ≡ goes out w → Ready i (λ b. byte b (record { escape = e; at = i }))
   ready true i h = absurd (never-escaped (outcome (settle i)) h)
   ready false i h = ready-in i (regionOf (i .word .mode) (topOf (i .frames))) h
 

@@ -2,6 +2,7 @@
 use mathlib.Core.Path.{_≡_}
 use mathlib.Core.List.{List, [], _∷_, _++_}
 use Prim.Native.Nat.{ℕ}
+use Rattle.basics.specs.declared.refusal.Reason.{Reason}
 use Rattle.source.specs.declared.symbol.Symbol.{Symbol}
 use Rattle.reading.specs.declared.act.Fault.{Fault}
 use Rattle.reading.specs.States.{Control, fresh}
@@ -14,31 +15,35 @@ abbrev pub told : {A B : Type 0} → (A → List B) → List A → List B
 told f [] = []
 told f (a ∷ out) = f a ++ told f out
 
-abbrev pub of-turn : {C A B F : Type 0} → (A → List B) → Turn C A F → Turn C B F
-of-turn f (goes out c) = goes (told f out) c
-of-turn f (fails out x) = fails (told f out) x
+-- the same of a turn, of whose fault g is told
+abbrev pub of-turn : {C A B F G : Type 0} → (A → List B) → (F → G) → Turn C A F → Turn C B G
+of-turn f g (goes out c) = goes (told f out) c
+of-turn f g (fails out x) = fails (told f out) (g x)
 
-abbrev pub telling : {C A B F : Type 0} → (A → List B) → Reader C A F → Reader C B F
-telling f R = record {
-  byte = λ b c. of-turn f (R .byte b c);
-  hole = λ c. of-turn f (R .hole c);
-  alias-end = λ c. of-turn f (R .alias-end c);
-  end = λ c. of-turn f (R .end c);
+abbrev pub telling : {C A B F G : Type 0} → (A → List B) → (F → G) → Reader C A F → Reader C B G
+telling f g R = record {
+  byte = λ b c. of-turn f g (R .byte b c);
+  hole = λ c. of-turn f g (R .hole c);
+  alias-end = λ c. of-turn f g (R .alias-end c);
+  end = λ c. of-turn f g (R .end c);
   name-before = R .name-before;
   name = R .name;
   without-word = R .without-word;
   forget = told f (R .forget);
-  too-many = R .too-many }
+  too-many = g (R .too-many) }
+
+abbrev pub reason-of : Fault → Reason
+reason-of f = f .reason
 
 -- the shell's reader, places apart
-abbrev pub unplaced : Reader Control Written Fault
-unplaced = telling writes shell
+abbrev pub unplaced : Reader Control Written Reason
+unplaced = telling writes reason-of shell
 
 -- the reading of symbols, places apart, under the aliases and with at most n replacements
-abbrev pub readingOf : Aliases → ℕ → List Symbol → Reading Written Fault
+abbrev pub readingOf : Aliases → ℕ → List Symbol → Reading Written Reason
 readingOf al n ss = read al unplaced n (signs ss) [] fresh
 
-abbrev pub itemsOf : Reading Written Fault → List Item
+abbrev pub itemsOf : Reading Written Reason → List Item
 itemsOf r = items [] (r .events)
 
 -- what is left of a placed reading without its places
