@@ -2,3 +2,4 @@ pub mod Runs
 pub mod Quoting
 pub mod Apart
 pub mod Filling
+pub mod Laying

@@ -1,5 +1,4 @@
 -- A step laid on a sheet of any kind: what code that writes as it goes computes. Assumes nothing.
-use mathlib.Core.Path.{_≡_}
 use mathlib.Core.Bool.{Bool}
 use mathlib.Core.List.{List, [], _∷_, _++_}
 use Rattle.std.specs.declared.result.Result.{Result}
@@ -38,7 +37,3 @@ performs put (a ∷ out) o = and (put a o) (λ p. performs put out p)
 abbrev pub lay : {O E : Type 0} → (Act → O → Result O E) → (Fault → O → E) → Outcome → O → Result (Held State O) E
 lay put placed (went out i) o = and (performs put out o) (λ p. Ok (held i p))
 lay put placed (failed out f) o = and (performs put out o) (λ p. Err (placed f p))
-
--- what is written as it goes is what the step comes to, written at once
-abbrev pub Laid-at-once : Type 1
-Laid-at-once = (O E : Type 0) (put : Act → O → Result O E) (placed : Fault → O → E) (s : Step) (o : O) → laid put placed s o ≡ lay put placed (outcome s) o

@@ -14,3 +14,4 @@ pub mod Unplaced
 pub mod Listed
 pub mod Filled
 pub mod Laws
+pub mod Examples

@@ -1,4 +1,5 @@
 // The laws of reading, each on the contract of a function, so that the check asks for its proof.
+ghost use Rattle.reading.specs.Examples.{Examples};
 ghost use Rattle.reading.specs.Laws.{Form-is-one-words-letters, Script-reads-as-template-filled, Scripts-differ-in-holes-alone};
 
 // A lawful form of a text, read where a hole is taken, adds the text's bytes to the word as quoted letters,
@@ -19,6 +20,13 @@ pub fn scripts_are_filled_templates() -> bool
 // Two scripts of one template are listed alike but for the holes, each of which shows its own text.
 pub fn scripts_differ_in_holes() -> bool
     ensures { λ _. ⌜ Scripts-differ-in-holes-alone ⌝ }
+{
+    true
+}
+
+// Examples of the rules, as one fact.
+pub fn examples() -> bool
+    ensures { λ _. ⌜ Examples ⌝ }
 {
     true
 }
