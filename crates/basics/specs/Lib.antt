@@ -1,3 +1,5 @@
 pub mod Bytes
 pub mod Pages
 pub mod Refusals
+pub mod Searches
+pub mod Checks

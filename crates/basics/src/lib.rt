@@ -1,4 +1,5 @@
-// What every layer shares: refusals, tests of bytes, and writing at the start of a page.
+// What every layer shares: refusals, tests of bytes, searches of a text, and writing at the start of a page.
 pub mod bytes;
 pub mod page;
 pub mod refusal;
+pub mod search;

@@ -1,1 +1,3 @@
 pub mod Symbols
+pub mod Replacing
+pub mod Fronts

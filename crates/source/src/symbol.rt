@@ -1,5 +1,5 @@
 // Symbols: what the reader is given, one at a time, each with its place in the text.
-// A byte of the text; a hole of a template, by its digit; or the end of an alias's value.
+// A byte of the text; a hole of a template, by its digit, 0 to 9; or the end of an alias's value.
 #[derive(Clone, Copy, Debug, PartialEq, Eq)]
 pub enum Sign {
     Byte(u8),
@@ -7,8 +7,9 @@ pub enum Sign {
     AliasEnd,
 }
 
+// The place is the offset in the text. No text is longer than 4,096 bytes, so two bytes hold it.
 #[derive(Clone, Copy, Debug, PartialEq, Eq)]
 pub struct Symbol {
     pub sign: Sign,
-    pub place: usize,
+    pub place: u16,
 }

@@ -1,0 +1,15 @@
+use mathlib.Core.Path.{sym, _∙_}
+use native.Mathlib.Omega.{arith}
+use lib.ListN.{take}
+use Rattle.aliases.proofs.Lookups.{name-here, name-past, length-row}
+use Rattle.aliases.proofs.table.AliasTable.name_at.Needs as need
+
+pub returns-then-index-self : need.returns-then-index-self
+returns-then-index-self c =
+    let t = c .args .self .now in
+    c .name .ensures ∙ sym (name-here (t .slots) (t .count) (omega arith) (c .args .index) (c .index-self-index .result) (c .if-index-self .taken))
+
+pub returns-else-index-self : need.returns-else-index-self
+returns-else-index-self c =
+    let t = c .args .self .now in
+    sym (name-past (take (t .count) (t .slots)) (c .args .index) (omega (arith, length-row (t .slots) (t .count) (omega arith))))

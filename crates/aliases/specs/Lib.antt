@@ -1,0 +1,4 @@
+pub mod Spelling
+pub mod Aliases
+pub mod Rows
+pub mod Tables

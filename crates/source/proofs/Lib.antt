@@ -1,0 +1,3 @@
+pub mod Templates
+pub mod Fronted
+pub mod Replaced
