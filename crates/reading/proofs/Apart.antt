@@ -8,7 +8,8 @@ use Rattle.source.specs.declared.symbol.Sign.{Sign}
 use Rattle.source.specs.declared.symbol.Sign.the-variants.{Byte, Hole, AliasEnd}
 use Rattle.source.specs.declared.symbol.Symbol.{Symbol}
 use Rattle.source.specs.Symbols.{aliased, bytesAt, symbol}
-use Rattle.reading.specs.Readings.{Turn, goes, fails, Reader, Aliases, Event, act, hole, Ending, ended, refused, Reading, acts, first, only, ahead, value-ahead, Replaced, replaced, ended-name, at-turn, at-hole, or-replaced, replacing, readTo, read}
+use Rattle.source.specs.Replacing.{outer}
+use Rattle.reading.specs.Readings.{Turn, goes, fails, Reader, Aliases, Event, act, hole, Ending, ended, refused, Reading, acts, first, only, ahead, value-ahead, Replaced, replaced, at-turn, at-hole, or-replaced, replacing, readTo, read}
 use Rattle.reading.specs.Placed.{Placing, perform, faulty, turn-at, replacing-at, sign-at, placedTo, placed}
 use Rattle.reading.specs.Items.{signs}
 use Rattle.reading.specs.Unplaced.{told, of-turn, telling, each, strip-events, strip-ending, strip}
@@ -67,8 +68,8 @@ module _ (C A B D F G E P : Type 0) (T : Placing A B F E P) (al : Aliases) (R : 
     sign-apart (Hole d) p ss ns c r k h =
         turn-apart (R .hole c) p r (λ e q. first (hole d ∷ []) (k ns e q)) (λ e. first (hole d ∷ []) (read-on (signs ss) ns e)) (λ e q. ap (first (hole d ∷ [])) (h ns e q))
     sign-apart AliasEnd p ss ns c r k h =
-        or-apart (replaced al ns (R .name c)) (replacing-at T al R again (symbol AliasEnd p ∷ ss) p ns c r) (replacing al (telling says blames R) again′ (AliasEnd ∷ signs ss) ns c) (turn-at T (R .alias-end c) p r (λ d q. k (ended-name ns) d q)) (at-turn (of-turn says blames (R .alias-end c)) (λ d. read-on (signs ss) (ended-name ns) d))
-        (put-apart (symbol AliasEnd p ∷ ss) p ns c r) (turn-apart (R .alias-end c) p r (λ d q. k (ended-name ns) d q) (λ d. read-on (signs ss) (ended-name ns) d) (λ d q. h (ended-name ns) d q))
+        or-apart (replaced al ns (R .name c)) (replacing-at T al R again (symbol AliasEnd p ∷ ss) p ns c r) (replacing al (telling says blames R) again′ (AliasEnd ∷ signs ss) ns c) (turn-at T (R .alias-end c) p r (λ d q. k (outer ns) d q)) (at-turn (of-turn says blames (R .alias-end c)) (λ d. read-on (signs ss) (outer ns) d))
+        (put-apart (symbol AliasEnd p ∷ ss) p ns c r) (turn-apart (R .alias-end c) p r (λ d q. k (outer ns) d q) (λ d. read-on (signs ss) (outer ns) d) (λ d q. h (outer ns) d q))
 
     placedTo-apart : (ss : List Symbol) (e : ℕ) (ns : List (List ℕ)) (c : C) (r : P) → strip f g (placedTo T al R again ss e ns c r) ≡ read-on (signs ss) ns c
     placedTo-apart [] e ns c r =

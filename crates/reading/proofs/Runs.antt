@@ -17,7 +17,8 @@ use Rattle.quoting.specs.declared.form.State.the-variants.{Bare, Escaped, Singl
 use Rattle.quoting.specs.declared.form.Step.{Step}
 use Rattle.quoting.specs.declared.form.Step.the-variants.{Passes, Delivers, Unlawful}
 use Rattle.quoting.specs.Forms.{delivered, stepped, with-byte, LawfulForm}
-use Rattle.reading.specs.Readings.{Turn, goes, fails, Reader, Aliases, Event, act, hole, Ending, ended, refused, Reading, acts, first, only, ahead, value-ahead, Replaced, replaced, ended-name, at-turn, at-hole, or-replaced, replacing, readTo, read}
+use Rattle.source.specs.Replacing.{outer}
+use Rattle.reading.specs.Readings.{Turn, goes, fails, Reader, Aliases, Event, act, hole, Ending, ended, refused, Reading, acts, first, only, ahead, value-ahead, Replaced, replaced, at-turn, at-hole, or-replaced, replacing, readTo, read}
 use Rattle.reading.specs.Filled.{render, spelled, fill-events, fill, Well, Accepted}
 use Rattle.reading.specs.Laws.{Quotes, Forms-give-letters, Fills}
 
@@ -168,8 +169,8 @@ module _ (C A F : Type 0) (al : Aliases) (R : Reader C A F) (q : ℕ → A) (L :
         (put (Byte b ∷ ss) ns c) (turn-same (R .byte b c) (λ d. readTo al R again (render form ss) ns d) (λ d. readTo al R again ss ns d) (λ d. readTo-same ss ns d)) ok
     readTo-same (Hole d ∷ ss) ns c ok = hole-same d ss ns c (R .hole c) refl (λ w. readTo-same ss ns w) ok
     readTo-same (AliasEnd ∷ ss) ns c ok =
-        or-same (replaced al ns (R .name c)) (replacing al R again (AliasEnd ∷ render form ss) ns c) (replacing al R again (AliasEnd ∷ ss) ns c) (at-turn (R .alias-end c) (λ d. readTo al R again (render form ss) (ended-name ns) d)) (at-turn (R .alias-end c) (λ d. readTo al R again ss (ended-name ns) d))
-        (put (AliasEnd ∷ ss) ns c) (turn-same (R .alias-end c) (λ d. readTo al R again (render form ss) (ended-name ns) d) (λ d. readTo al R again ss (ended-name ns) d) (λ d. readTo-same ss (ended-name ns) d)) ok
+        or-same (replaced al ns (R .name c)) (replacing al R again (AliasEnd ∷ render form ss) ns c) (replacing al R again (AliasEnd ∷ ss) ns c) (at-turn (R .alias-end c) (λ d. readTo al R again (render form ss) (outer ns) d)) (at-turn (R .alias-end c) (λ d. readTo al R again ss (outer ns) d))
+        (put (AliasEnd ∷ ss) ns c) (turn-same (R .alias-end c) (λ d. readTo al R again (render form ss) (outer ns) d) (λ d. readTo al R again ss (outer ns) d) (λ d. readTo-same ss (outer ns) d)) ok
 
   read-same : (n : ℕ) (ss : List Sign) (ns : List (List ℕ)) (c : C) → Same (read al R n (render form ss) ns c) (read al R n ss ns c)
   unfolding read

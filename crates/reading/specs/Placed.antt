@@ -8,7 +8,8 @@ use Rattle.source.specs.declared.symbol.Sign.{Sign}
 use Rattle.source.specs.declared.symbol.Sign.the-variants.{Byte, Hole, AliasEnd}
 use Rattle.source.specs.declared.symbol.Symbol.{Symbol}
 use Rattle.source.specs.Symbols.{aliased}
-use Rattle.reading.specs.Readings.{Turn, goes, fails, Reader, Aliases, Event, act, hole, Ending, ended, refused, Reading, acts, first, only, Replaced, replaced, ended-name, or-replaced, read}
+use Rattle.source.specs.Replacing.{outer}
+use Rattle.reading.specs.Readings.{Turn, goes, fails, Reader, Aliases, Event, act, hole, Ending, ended, refused, Reading, acts, first, only, Replaced, replaced, or-replaced, read}
 
 -- places kept (P): what an act at a place notes of them and what it writes (B), the refusal (E) that a fault comes to, and the place of the word
 pub record Placing (A B F E P : Type 0) : Type 0 where
@@ -37,7 +38,7 @@ module _ {C A B F E P : Type 0} (T : Placing A B F E P) (al : Aliases) (R : Read
   abbrev pub sign-at : Sign → ℕ → List (List ℕ) → C → P → (Replaced → Reading B E) → (List (List ℕ) → C → P → Reading B E) → Reading B E
   sign-at (Byte b) p ns c r put k = or-replaced (replaced al ns (R .name-before b c)) put (turn-at T (R .byte b c) p r (λ d q. k ns d q))
   sign-at (Hole d) p ns c r put k = turn-at T (R .hole c) p r (λ e q. first (hole d ∷ []) (k ns e q))
-  sign-at AliasEnd p ns c r put k = or-replaced (replaced al ns (R .name c)) put (turn-at T (R .alias-end c) p r (λ d q. k (ended-name ns) d q))
+  sign-at AliasEnd p ns c r put k = or-replaced (replaced al ns (R .name c)) put (turn-at T (R .alias-end c) p r (λ d q. k (outer ns) d q))
 
   abbrev pub placedTo : List Symbol → ℕ → List (List ℕ) → C → P → Reading B E
   placedTo [] e ns c r = or-replaced (replaced al ns (R .name c)) (replacing-at [] e ns c r) (turn-at T (R .end c) e r (λ d q. only [] ended))

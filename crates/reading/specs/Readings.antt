@@ -1,12 +1,11 @@
 -- Any reader, and what it reads. Assumes nothing.
 use mathlib.Core.List.{List, [], _∷_, _++_}
-use mathlib.Core.Bool.{true, false}
 use Prim.Native.Nat.{ℕ, zero, suc}
 use Rattle.std.specs.declared.option.Option.{Option}
 use Rattle.std.specs.declared.option.Option.the-variants.{Some, None}
 use Rattle.source.specs.declared.symbol.Sign.{Sign}
 use Rattle.source.specs.declared.symbol.Sign.the-variants.{Byte, Hole, AliasEnd}
-use Rattle.commands.specs.Roles.{one-of}
+use Rattle.source.specs.Replacing.{standsFor, outer}
 
 -- what a symbol does: acts (A), and the control (C) after them or a fault (F)
 pub data Turn (C A F : Type 0) : Type 0 where
@@ -76,11 +75,7 @@ valued w (Some v) = Some (record { name = w; value = v })
 -- the word is replaced if it is an alias whose end is not still to come
 abbrev pub replaced : Aliases → List (List ℕ) → Option (List ℕ) → Option Replaced
 replaced al open-names None = None
-replaced al open-names (Some w) = elim (one-of w open-names) as (λ _. Option Replaced) [ true ↦ None | false ↦ valued w (al w) ]
-
-abbrev pub ended-name : List (List ℕ) → List (List ℕ)
-ended-name [] = []
-ended-name (w ∷ ws) = ws
+replaced al open-names (Some w) = valued w (standsFor al open-names w)
 
 abbrev pub at-turn : {C A F : Type 0} → Turn C A F → (C → Reading A F) → Reading A F
 at-turn (goes out c) k = first (acts out) (k c)
@@ -103,7 +98,7 @@ module _ {C A F : Type 0} (al : Aliases) (R : Reader C A F) (again : List Sign �
   readTo [] ns c = or-replaced (replaced al ns (R .name c)) (replacing [] ns c) (at-turn (R .end c) (λ d. only [] ended))
   readTo (Byte b ∷ ss) ns c = or-replaced (replaced al ns (R .name-before b c)) (replacing (Byte b ∷ ss) ns c) (at-turn (R .byte b c) (λ d. readTo ss ns d))
   readTo (Hole d ∷ ss) ns c = at-hole d (R .hole c) (λ e. readTo ss ns e)
-  readTo (AliasEnd ∷ ss) ns c = or-replaced (replaced al ns (R .name c)) (replacing (AliasEnd ∷ ss) ns c) (at-turn (R .alias-end c) (λ d. readTo ss (ended-name ns) d))
+  readTo (AliasEnd ∷ ss) ns c = or-replaced (replaced al ns (R .name c)) (replacing (AliasEnd ∷ ss) ns c) (at-turn (R .alias-end c) (λ d. readTo ss (outer ns) d))
 
 -- the reading of ss from c with at most n replacements, where the aliases named ns have their ends still to come
 unfoldable pub read : {C A F : Type 0} → Aliases → Reader C A F → ℕ → List Sign → List (List ℕ) → C → Reading A F
