@@ -3,3 +3,4 @@ pub mod Quoting
 pub mod Apart
 pub mod Filling
 pub mod Laying
+pub mod Plains

@@ -15,3 +15,4 @@ pub mod Listed
 pub mod Filled
 pub mod Laws
 pub mod Examples
+pub mod PlainWords

@@ -1,5 +1,6 @@
 // The laws of reading, each on the contract of a function, so that the check asks for its proof.
 ghost use Rattle.reading.specs.Examples.{Examples};
+ghost use Rattle.reading.specs.PlainWords.{Kept-bytes-tell-the-word};
 ghost use Rattle.reading.specs.Laws.{Form-is-one-words-letters, Script-reads-as-template-filled, Scripts-differ-in-holes-alone};
 
 // A lawful form of a text, read where a hole is taken, adds the text's bytes to the word as quoted letters,
@@ -27,6 +28,13 @@ pub fn scripts_differ_in_holes() -> bool
 // Examples of the rules, as one fact.
 pub fn examples() -> bool
     ensures { λ _. ⌜ Examples ⌝ }
+{
+    true
+}
+
+// The 33 bytes that are kept of a plain word, and how it opens, tell what the whole word would tell.
+pub fn kept_bytes_tell_the_word() -> bool
+    ensures { λ _. ⌜ Kept-bytes-tell-the-word ⌝ }
 {
     true
 }
