@@ -3,3 +3,4 @@ pub mod Roles
 pub mod Kinds
 pub mod Bodies
 pub mod Redirections
+pub mod Lines

@@ -2,6 +2,7 @@
 pub mod awaited;
 pub mod frame;
 pub mod item;
+pub mod laws;
 pub mod line;
 pub mod role;
 pub mod sort;
