@@ -12,7 +12,10 @@ use Rattle.std.proofs.shelf.Tests.{cases-bool, cases-lt, eqb-true, ne-eqb, and-
 use Rattle.std.specs.shelf.Text.{sameBytes}
 use Rattle.commands.specs.declared.line.Line.{Line}
 use Rattle.commands.specs.declared.line.Line.the-variants.{Fresh, Tabs, Same, Other}
-use Rattle.commands.specs.Bodies.{Document, Gives, Read, nothing, letters, ends, line-byte, line-is, compared}
+use Rattle.commands.specs.declared.line.Gives.{Gives}
+use Rattle.commands.specs.declared.line.Gives.the-variants.{Nothing, Letters, Ends}
+use Rattle.commands.specs.declared.line.LineByte.{LineByte}
+use Rattle.commands.specs.Bodies.{Document, line-byte, line-is, compared}
 use Rattle.commands.specs.Lines.{Body, body, lacking, more, onto-first, lines, joined, untabbed, chopped, before, given, body-from, Bodies-go-by-lines}
 
 -- the line so far with what is read of the delimiter and what is left of it
@@ -205,11 +208,11 @@ module _ (d : Document) where
   lineOf Other = other
 
   abbrev doesOf : Gives → ℕ → Does
-  doesOf nothing b = passes
-  doesOf (letters n) b = writes (take n delimiter ++ (b ∷ []))
-  doesOf ends b = stops
+  doesOf Nothing b = passes
+  doesOf (Letters n) b = writes (take n delimiter ++ (b ∷ []))
+  doesOf Ends b = stops
 
-  abbrev toOf : Read → ℕ → To
+  abbrev toOf : LineByte → ℕ → To
   toOf r b = to (doesOf (r .gives) b) (lineOf (r .line))
 
   compared-is : (n b : ℕ) → toOf (compared n delimiter b) b ≡ compare (take n delimiter) (drop n delimiter) b
@@ -228,7 +231,7 @@ module _ (d : Document) where
           ]
       ]
 
-  first-is : (b : ℕ) (y : Bool) → toOf (cond y (record { gives = nothing; line = Tabs }) (compared 0 delimiter b)) b ≡ cond y (to passes tabs) (compare [] delimiter b)
+  first-is : (b : ℕ) (y : Bool) → toOf (cond y (record { gives = Nothing; line = Tabs }) (compared 0 delimiter b)) b ≡ cond y (to passes tabs) (compare [] delimiter b)
   first-is b true = refl
   first-is b false = compared-is 0 b
 
@@ -251,13 +254,13 @@ module _ (d : Document) where
   end-is (Same n) = none-left n
   end-is Other = refl
 
-  given-is : (r : Read) (b : ℕ) (bs : List ℕ) (k : At → Body) → given (r .gives) delimiter b bs (k (lineOf (r .line))) ≡ next (toOf r b) bs k
+  given-is : (r : LineByte) (b : ℕ) (bs : List ℕ) (k : At → Body) → given (r .gives) delimiter b bs (k (lineOf (r .line))) ≡ next (toOf r b) bs k
   given-is r b bs k = by (r .gives) (r .line)
     where
       by : (g : Gives) (l : Line) → given g delimiter b bs (k (lineOf l)) ≡ next (to (doesOf g b) (lineOf l)) bs k
-      by nothing l = refl
-      by (letters n) l = refl
-      by ends l = refl
+      by Nothing l = refl
+      by (Letters n) l = refl
+      by Ends l = refl
 
   runs : (bs : List ℕ) (l : Line) → body-from d l bs ≡ run (d .dash) delimiter (lineOf l) bs
   runs [] l = ap (λ (y : Bool). cond y (body [] []) lacking) (end-is l)

@@ -4,3 +4,4 @@ pub mod Kinds
 pub mod Bodies
 pub mod Redirections
 pub mod Lines
+pub mod Queues

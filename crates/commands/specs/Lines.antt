@@ -10,7 +10,9 @@ use Rattle.basics.specs.Bytes.{newline}
 use Rattle.tokens.specs.Bytes.{tab}
 use Rattle.commands.specs.declared.line.Line.{Line}
 use Rattle.commands.specs.declared.line.Line.the-variants.{Fresh}
-use Rattle.commands.specs.Bodies.{Document, Gives, nothing, letters, ends, line-byte, line-is}
+use Rattle.commands.specs.declared.line.Gives.{Gives}
+use Rattle.commands.specs.declared.line.Gives.the-variants.{Nothing, Letters, Ends}
+use Rattle.commands.specs.Bodies.{Document, line-byte, line-is}
 
 -- the body's letters and the bytes behind the delimiter's line, or that there is no such line
 pub data Body : Type 0 where
@@ -55,9 +57,9 @@ before dash d (l ∷ ls) = cond (sameBytes (chopped (untabbed dash l)) d) (body 
 -- byte by byte
 
 abbrev pub given : Gives → List ℕ → ℕ → List ℕ → Body → Body
-given nothing d b bs rest = rest
-given (letters n) d b bs rest = more (take n d ++ (b ∷ [])) rest
-given ends d b bs rest = body [] bs
+given Nothing d b bs rest = rest
+given (Letters n) d b bs rest = more (take n d ++ (b ∷ [])) rest
+given Ends d b bs rest = body [] bs
 
 abbrev pub body-from : Document → Line → List ℕ → Body
 body-from d l [] = cond (line-is d l) (body [] []) lacking

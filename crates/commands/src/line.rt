@@ -10,3 +10,20 @@ pub enum Line {
     // it is not the delimiter
     Other,
 }
+
+// What a byte of a body gives.
+#[derive(Clone, Copy, Debug, PartialEq, Eq)]
+pub enum Gives {
+    Nothing,
+    // that many letters of the delimiter, and then the byte
+    Letters(usize),
+    // the body's end
+    Ends,
+}
+
+// What a byte gives, and the line after it.
+#[derive(Clone, Copy)]
+pub struct LineByte {
+    pub gives: Gives,
+    pub line: Line,
+}

@@ -18,8 +18,11 @@ use Rattle.tokens.specs.Expansions.{goesOn, isQuotable}
 use Rattle.commands.specs.declared.frame.Frame.{Frame}
 use Rattle.commands.specs.declared.frame.Frame.the-variants as frame
 use Rattle.commands.specs.declared.line.Line.{Line}
+use Rattle.commands.specs.declared.line.Gives.{Gives}
+use Rattle.commands.specs.declared.line.Gives.the-variants as gives
+use Rattle.commands.specs.declared.line.LineByte.{LineByte}
 use Rattle.commands.specs.declared.item.Kind.the-variants as kind
-use Rattle.commands.specs.Bodies.{Document, no-document, Gives, nothing, letters, ends, Read, line-byte}
+use Rattle.commands.specs.Bodies.{Document, no-document, line-byte}
 use Rattle.reading.specs.declared.mode.Mode.the-variants as mode
 use Rattle.reading.specs.declared.act.Act.the-variants.{WordHere, WordAtBackslash, DollarHere, Item}
 use Rattle.reading.specs.declared.act.At.the-variants as at
@@ -109,9 +112,9 @@ abbrev pub body-ends : ℕ → State → Step
 body-ends n i = does (Item kind.Body (depth i) at.Body) (next-body (n + 1) i)
 
 abbrev pub body-goes : ℕ → ℕ → Gives → Line → State → Step
-body-goes b n nothing l i = done (set-word (in-mode (mode.Body n l)) i)
-body-goes b n (letters k) l i = writes mark.Body (take k (document n i .delimiter) ++ (b ∷ [])) (done (set-word (in-mode (mode.Body n l)) i))
-body-goes b n ends l i = body-ends n i
+body-goes b n gives.Nothing l i = done (set-word (in-mode (mode.Body n l)) i)
+body-goes b n (gives.Letters k) l i = writes mark.Body (take k (document n i .delimiter) ++ (b ∷ [])) (done (set-word (in-mode (mode.Body n l)) i))
+body-goes b n gives.Ends l i = body-ends n i
 
 abbrev pub in-body : ℕ → ℕ → Line → State → Step
-in-body b n l i = let r : Read = line-byte (document n i) l b in body-goes b n (r .gives) (r .line) i
+in-body b n l i = let r : LineByte = line-byte (document n i) l b in body-goes b n (r .gives) (r .line) i

@@ -3,3 +3,5 @@ pub mod Operators
 pub mod Letters
 pub mod Openings
 pub mod Expansions
+pub mod Table
+pub mod Keeping

@@ -1,6 +1,8 @@
 // The class of a byte: what it can do in command text.
 ghost use mathlib.Core.Path.{_≡_};
-ghost use Rattle.tokens.specs.Bytes.{classOf};
+ghost use Prim.Native.Nat.{_<_};
+ghost use Rattle.tokens.specs.Bytes.{classOf, endsWord, redirects};
+ghost use Rattle.tokens.specs.Table.{columnOf};
 
 #[derive(Clone, Copy, Debug, PartialEq, Eq)]
 pub enum Class {
@@ -45,5 +47,43 @@ pub fn class_of(b: u8) -> Class
         b'`' => Class::Backquote,
         b'#' => Class::Hash,
         _ => Class::Other,
+    }
+}
+
+impl Class {
+    // A byte of the class ends a word in command text.
+    pub fn ends_word(self) -> bool
+        ensures { λ r. ⌜ r ≡ endsWord self ⌝ }
+    {
+        match self {
+            Class::Newline
+            | Class::Blank
+            | Class::Amp
+            | Class::Bar
+            | Class::Semi
+            | Class::Open
+            | Class::Close
+            | Class::Less
+            | Class::Great => true,
+            _ => false,
+        }
+    }
+
+    // A byte of the class begins a redirection.
+    pub fn redirects(self) -> bool
+        ensures { λ r. ⌜ r ≡ redirects self ⌝ }
+    {
+        match self {
+            Class::Less | Class::Great => true,
+            _ => false,
+        }
+    }
+
+    // The class's column in the table of operators.
+    pub fn column(self) -> usize
+        ensures is { λ r. ⌜ r ≡ columnOf self ⌝ }
+        ensures below { λ r. ⌜ r < 17 ⌝ }
+    {
+        self as usize
     }
 }

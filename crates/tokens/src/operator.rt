@@ -1,10 +1,11 @@
 // The operators.
 ghost use mathlib.Core.Path.{_≡_};
-ghost use Rattle.tokens.specs.Operators.{codeOf, mayLengthen};
+ghost use Prim.Native.Nat.{_<_};
+ghost use Rattle.tokens.specs.Operators.{codeOf, textOf, mayLengthen};
 
 #[derive(Clone, Copy, Debug, PartialEq, Eq)]
 pub enum Operator {
-    Newline,
+    Newline = 1,
     Amp,
     AndIf,
     Bar,
@@ -47,6 +48,39 @@ impl Operator {
             Operator::LessGreat => 16,
             Operator::HereDash => 17,
             Operator::Clobber => 18,
+        }
+    }
+
+    // The operator's row in the table of operators: its code.
+    pub fn row(self) -> usize
+        ensures is { λ r. ⌜ r ≡ codeOf self ⌝ }
+        ensures below { λ r. ⌜ r < 19 ⌝ }
+    {
+        self as usize
+    }
+
+    pub fn text(self) -> &'static str
+        ensures { λ r. ⌜ now r ≡ textOf self ⌝ }
+    {
+        match self {
+            Operator::Newline => "\n",
+            Operator::Amp => "&",
+            Operator::AndIf => "&&",
+            Operator::Bar => "|",
+            Operator::OrIf => "||",
+            Operator::Semi => ";",
+            Operator::DoubleSemi => ";;",
+            Operator::Open => "(",
+            Operator::Close => ")",
+            Operator::Less => "<",
+            Operator::Great => ">",
+            Operator::Here => "<<",
+            Operator::Append => ">>",
+            Operator::LessAmp => "<&",
+            Operator::GreatAmp => ">&",
+            Operator::LessGreat => "<>",
+            Operator::HereDash => "<<-",
+            Operator::Clobber => ">|",
         }
     }
 
