@@ -1,0 +1,4 @@
+// The reader: it steps in place over any source, and writes to any sink.
+pub mod sink;
+pub mod state;
+pub mod words;
