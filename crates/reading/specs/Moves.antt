@@ -1,8 +1,8 @@
 -- What each symbol, and the end, does to the whole control; and the word that it may replace. Assumes nothing.
-use mathlib.Core.Bool.{Bool, true, false, cond, _||_, _&&_}
+use mathlib.Core.Bool.{Bool, true, false, cond, not, _||_, _&&_}
 use mathlib.Core.List.{List, [], _∷_}
 use Prim.Native.Nat.{ℕ}
-use lib.Dec.{eqb}
+use lib.Dec.{eqb, ltb}
 use Rattle.std.specs.declared.option.Option.{Option}
 use Rattle.std.specs.declared.option.Option.the-variants.{Some, None}
 use Rattle.basics.specs.declared.refusal.Reason.the-variants as reason
@@ -12,7 +12,6 @@ use Rattle.basics.specs.Bytes.{newline, backslash}
 use Rattle.tokens.specs.Bytes.{classOf, endsWord, redirects}
 use Rattle.tokens.specs.Openings.{isNumber}
 use Rattle.tokens.specs.Expansions.{isNothing}
-use Rattle.commands.specs.declared.frame.Frame.{Frame}
 use Rattle.commands.specs.declared.stage.Stage.{Stage}
 use Rattle.commands.specs.declared.stage.Stage.the-variants.{Start, Must, Head, Args, Done}
 use Rattle.commands.specs.Bodies.{line-is}
@@ -24,7 +23,7 @@ use Rattle.reading.specs.declared.mode.Region.{Region}
 use Rattle.reading.specs.declared.mode.Region.the-variants as region
 use Rattle.reading.specs.declared.act.Act.the-variants.{BackslashHere}
 use Rattle.reading.specs.declared.act.At.the-variants as at
-use Rattle.reading.specs.States.{State, Control, Documents, Word, set-word, gap, calm, waits, topOf, regionOf}
+use Rattle.reading.specs.States.{State, Control, Documents, Word, set-word, gap, calm, waits, depth, topOf, regionOf}
 use Rattle.reading.specs.Steps.{Step, done, refuse, does, _then_, Move, plainly}
 use Rattle.reading.specs.Words.{word-ends, use-here}
 use Rattle.reading.specs.Expansions.{settle}
@@ -64,12 +63,8 @@ isMust Head = false
 isMust Args = false
 isMust Done = false
 
-abbrev pub any : List Frame → Bool
-any [] = false
-any (f ∷ fs) = true
-
 abbrev pub unfinished : State → Bool
-unfinished i = isMust (i .command .stage) || (cond (isFree (i .command .awaited)) false true || any (i .frames))
+unfinished i = isMust (i .command .stage) || (not (isFree (i .command .awaited)) || ltb 0 (depth i))
 
 abbrev pub finish : State → Step
 finish i = cond (unfinished i) (refuse reason.Unfinished at.Here) (cond (waits (i .documents)) (refuse reason.HereDocument at.Here) (done i))
@@ -99,7 +94,7 @@ end c = plainly (settle (c .at) then λ j. cond (c .escape) (refuse reason.OpenQ
 abbrev pub plain-name : Bool → Mode → Bool
 plain-name redirected mode.Gap = false
 plain-name redirected mode.Comment = false
-plain-name redirected (mode.Plain o) = cond (redirected && isNumber o) false true
+plain-name redirected (mode.Plain o) = not (redirected && isNumber o)
 plain-name redirected (mode.Mixed y) = false
 plain-name redirected (mode.Body n l) = false
 

@@ -24,7 +24,7 @@ use Rattle.commands.specs.Redirections.{awaitedBy}
 use Rattle.reading.specs.declared.mode.Mode.the-variants as mode
 use Rattle.reading.specs.declared.act.Act.the-variants.{OperatorHere, BodyNext, Item}
 use Rattle.reading.specs.declared.act.At.the-variants as at
-use Rattle.reading.specs.States.{Word, Command, Documents, State, set-begun, set-word, set-frames, set-command, set-documents, set-letters, set-waiting, command, in-mode, gap, depth, room, waits}
+use Rattle.reading.specs.States.{Word, Command, Documents, State, set-begun, set-word, set-frames, set-command, set-documents, set-letters, set-waiting, command, in-mode, gap, depth, room, waits, innermost, around}
 use Rattle.reading.specs.Steps.{Step, done, refuse, does, _then_}
 use Rattle.reading.specs.Words.{word-ends}
 
@@ -39,23 +39,24 @@ next-body n i =
     (done (set-documents (set-waiting (take (i .documents .outside) (i .documents .waiting)) (i .documents)) (set-word gap i)))
 
 -- what a substitution leaves: the word that it stands in goes on
-abbrev pub left : Outer → List Frame → State → State
-left o fs i = record {
+abbrev pub left : Outer → State → State
+left o i = record {
   begun = begun.Nothing;
   word = in-mode (mode.Mixed (o .assign));
-  frames = fs;
+  frames = around (i .frames);
   command = command (o .stage) (cond (o .target) awaited.Target awaited.Nothing);
   documents = record { letters = i .documents .letters; waiting = i .documents .waiting; outside = o .waiting } }
 
+abbrev pub leaves : Outer → State → Step
+leaves u i = cond (waits (i .documents)) (refuse reason.HereDocument at.Operator) (does (Item kind.Close (depth i) at.Operator) (done (left u i)))
+
 -- `)`, by the innermost frame
-abbrev pub closes : Operator → Stage → List Frame → State → Step
-closes o g [] i = refuse reason.OutOfPlace at.Operator
-closes o g (frame.Single ∷ fs) i = refuse reason.OutOfPlace at.Operator
-closes o g (frame.Double ∷ fs) i = refuse reason.OutOfPlace at.Operator
-closes o g (frame.Group ∷ fs) i = giving o i (done (set-command (command g awaited.Nothing) (set-frames fs (set-begun begun.Nothing i))))
-closes o g (frame.Substitution u ∷ fs) i =
-    cond (waits (i .documents)) (refuse reason.HereDocument at.Operator)
-    (does (Item kind.Close (depth i) at.Operator) (done (left u fs i)))
+abbrev pub closes : Operator → Stage → Option Frame → State → Step
+closes o g None i = refuse reason.OutOfPlace at.Operator
+closes o g (Some frame.Single) i = refuse reason.OutOfPlace at.Operator
+closes o g (Some frame.Double) i = refuse reason.OutOfPlace at.Operator
+closes o g (Some frame.Group) i = giving o i (done (set-command (command g awaited.Nothing) (set-frames (around (i .frames)) (set-begun begun.Nothing i))))
+closes o g (Some (frame.Substitution u)) i = leaves u i
 
 -- an operator in its place, which leads to the stage g
 abbrev pub led : Operator → Stage → Sort → State → Step
@@ -66,7 +67,7 @@ led o g sort.Misplaced i = refuse reason.OutOfPlace at.Operator
 led o g sort.Opens i =
     cond (room i) (giving o i (done (set-command (command g awaited.Nothing) (set-frames (frame.Group ∷ i .frames) (set-begun begun.Nothing i)))))
     (refuse reason.TooDeep at.Operator)
-led o g sort.Closes i = closes o g (i .frames) i
+led o g sort.Closes i = closes o g (innermost (i .frames)) i
 led o g sort.Redirects i = giving o i (done (set-command (command g (awaitedBy o)) (set-documents (set-letters [] (i .documents)) (set-begun begun.Nothing i))))
 
 abbrev pub placed : Operator → Option Stage → State → Step

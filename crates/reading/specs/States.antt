@@ -4,6 +4,9 @@ use mathlib.Core.List.{List, [], _∷_}
 use Prim.Native.Nat.{ℕ}
 use lib.Dec.{ltb}
 use lib.ListN.{length}
+use Rattle.std.specs.declared.option.Option.{Option}
+use Rattle.std.specs.declared.option.Option.the-variants.{Some, None}
+use Rattle.basics.specs.Stacks as stacks
 use Rattle.tokens.specs.declared.begun.Begun.{Begun}
 use Rattle.tokens.specs.declared.begun.Begun.the-variants as begun
 use Rattle.tokens.specs.declared.top.Top.{Top}
@@ -97,17 +100,23 @@ room i = ltb (length (i .frames)) 32
 abbrev pub waits : Documents → Bool
 waits d = ltb (d .outside) (length (d .waiting))
 
-abbrev pub topOf : List Frame → Top
-topOf [] = top.Command
-topOf (frame.Group ∷ fs) = top.Command
-topOf (frame.Substitution o ∷ fs) = top.Command
-topOf (frame.Single ∷ fs) = top.Single
-topOf (frame.Double ∷ fs) = top.Double
+abbrev pub innermost : List Frame → Option Frame
+innermost fs = stacks.top fs
 
 -- the frames around the innermost
 abbrev pub around : List Frame → List Frame
-around [] = []
-around (f ∷ fs) = fs
+around fs = stacks.below fs
+
+-- what the innermost frame makes of the text
+abbrev pub frameTop : Option Frame → Top
+frameTop None = top.Command
+frameTop (Some frame.Group) = top.Command
+frameTop (Some (frame.Substitution o)) = top.Command
+frameTop (Some frame.Single) = top.Single
+frameTop (Some frame.Double) = top.Double
+
+abbrev pub topOf : List Frame → Top
+topOf fs = frameTop (innermost fs)
 
 abbrev pub textual : Top → Region
 textual top.Command = region.Text

@@ -1,7 +1,7 @@
 // What a byte may be in a name, a number or an expansion.
 ghost use mathlib.Core.Path.{_≡_};
 ghost use Rattle.tokens.specs.Bytes.{isDigit, isNameStart, isNameByte};
-ghost use Rattle.tokens.specs.Expansions.{isSpecial, isQuotable};
+ghost use Rattle.tokens.specs.Expansions.{among, isSpecial, isQuotable};
 
 pub fn is_digit(b: u8) -> bool
     ensures { λ r. ⌜ r ≡ isDigit b ⌝ }
@@ -40,4 +40,18 @@ pub fn is_quotable(b: u8) -> bool
         b'$' | b'`' | b'"' | b'\\' => true,
         _ => false,
     }
+}
+
+// The byte is in the text.
+pub fn contains(text: &[u8], b: u8) -> bool
+    ensures { λ r. ⌜ r ≡ among b (now (text .entry)) ⌝ }
+{
+    let mut i = 0;
+    while i < text.len() {
+        if b == text[i] {
+            return true;
+        }
+        i += 1;
+    }
+    false
 }

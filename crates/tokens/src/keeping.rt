@@ -3,7 +3,9 @@ ghost use mathlib.Core.Path.{_≡_};
 ghost use mathlib.Core.List.{[], _∷_};
 ghost use lib.ListN.{length};
 ghost use Rattle.tokens.specs.Openings.{kept};
+ghost use Rattle.tokens.specs.Expansions.{among};
 ghost use Rattle.tokens.specs.Keeping.{keptBytes};
+use crate::bytes::contains;
 use crate::kept::Kept;
 
 impl Kept {
@@ -41,5 +43,18 @@ impl Kept {
         ensures { λ r. ⌜ now r ≡ keptBytes (now (self .entry)) ⌝ }
     {
         &self.bytes[0..self.len]
+    }
+
+    pub fn len(&self) -> usize
+        ensures { λ r. ⌜ r ≡ length (keptBytes (now (self .entry))) ⌝ }
+    {
+        self.len
+    }
+
+    // The byte is among them.
+    pub fn has(&self, b: u8) -> bool
+        ensures { λ r. ⌜ r ≡ among b (keptBytes (now (self .entry))) ⌝ }
+    {
+        contains(self.text(), b)
     }
 }
