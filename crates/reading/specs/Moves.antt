@@ -102,14 +102,17 @@ plain-name redirected (mode.Body n l) = false
 abbrev pub name-here : Bool → State → Bool
 name-here redirected i = isNothing (i .begun) && (plain-name redirected (i .word .mode) && (isFree (i .command .awaited) && isNameUse (use-here i)))
 
-abbrev pub name-in : Bool → State → Top → Option (List ℕ)
-name-in redirected i top.Command = cond (name-here redirected i) (Some (i .word .kept)) None
-name-in redirected i top.Single = None
-name-in redirected i top.Double = None
+abbrev pub named-in : Bool → State → Top → Bool
+named-in redirected i top.Command = name-here redirected i
+named-in redirected i top.Single = false
+named-in redirected i top.Double = false
+
+abbrev pub named : Bool → Control → Bool
+named redirected c = elim (c .escape) as (λ _. Bool) [ true ↦ false | false ↦ named-in redirected (c .at) (topOf (c .at .frames)) ]
 
 -- the bytes of such a word, where it ends
 abbrev pub name : Bool → Control → Option (List ℕ)
-name redirected c = elim (c .escape) as (λ _. Option (List ℕ)) [ true ↦ None | false ↦ name-in redirected (c .at) (topOf (c .at .frames)) ]
+name redirected c = cond (named redirected c) (Some (c .at .word .kept)) None
 
 -- the same where the byte b comes
 abbrev pub name-before : ℕ → Control → Option (List ℕ)

@@ -15,6 +15,7 @@ use Rattle.tokens.specs.declared.letter.Mark.the-variants as mark
 use Rattle.basics.specs.Bytes.{newline, single-quote, backslash}
 use Rattle.tokens.specs.Bytes.{classOf, double-quote, dollar, backquote}
 use Rattle.tokens.specs.Expansions.{goesOn, isQuotable}
+use Rattle.tokens.specs.Letters.{marked}
 use Rattle.commands.specs.declared.frame.Frame.{Frame}
 use Rattle.commands.specs.declared.frame.Frame.the-variants as frame
 use Rattle.commands.specs.declared.line.Line.{Line}
@@ -24,7 +25,7 @@ use Rattle.commands.specs.declared.line.LineByte.{LineByte}
 use Rattle.commands.specs.declared.item.Kind.the-variants as kind
 use Rattle.commands.specs.Bodies.{Document, no-document, line-byte}
 use Rattle.reading.specs.declared.mode.Mode.the-variants as mode
-use Rattle.reading.specs.declared.act.Act.the-variants.{WordHere, WordAtBackslash, DollarHere, Item}
+use Rattle.reading.specs.declared.act.Act.the-variants.{WordHere, WordAtBackslash, DollarHere, Letter, Item}
 use Rattle.reading.specs.declared.act.At.the-variants as at
 use Rattle.reading.specs.States.{State, set-begun, set-word, set-frames, in-mode, depth, room, topOf, around}
 use Rattle.reading.specs.Steps.{Step, done, refuse, does, _then_, writes}
@@ -113,7 +114,7 @@ body-ends n i = does (Item kind.Body (depth i) at.Body) (next-body (n + 1) i)
 
 abbrev pub body-goes : ℕ → ℕ → Gives → Line → State → Step
 body-goes b n gives.Nothing l i = done (set-word (in-mode (mode.Body n l)) i)
-body-goes b n (gives.Letters k) l i = writes mark.Body (take k (document n i .delimiter) ++ (b ∷ [])) (done (set-word (in-mode (mode.Body n l)) i))
+body-goes b n (gives.Letters k) l i = writes mark.Body (take k (document n i .delimiter)) (done i) then λ j. does (Letter (marked mark.Body b)) (done (set-word (in-mode (mode.Body n l)) j))
 body-goes b n gives.Ends l i = body-ends n i
 
 abbrev pub in-body : ℕ → ℕ → Line → State → Step
