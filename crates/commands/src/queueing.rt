@@ -71,4 +71,11 @@ impl Queue {
             line_is(false, b"", line)
         }
     }
+
+    // The n-th's delimiter.
+    pub fn delimiter(&self, n: usize) -> &[u8]
+        ensures { λ r. ⌜ now r ≡ getD (waitingOf (now (self .entry))) n no-document .delimiter ⌝ }
+    {
+        if n < self.count { self.held[n].delimiter.text() } else { b"" }
+    }
 }

@@ -38,3 +38,10 @@ pub struct State {
     pub command: Command,
     pub documents: Documents,
 }
+
+// A state, and whether an unquoted backslash stands before the next symbol.
+#[derive(Drop)]
+pub struct Reader {
+    pub escape: bool,
+    pub at: State,
+}
