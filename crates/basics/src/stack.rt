@@ -19,7 +19,10 @@ impl<T: Copy, const N: usize> Stack<T, N> {
     pub fn new(fill: T) -> Self
         ensures { λ r. ⌜ drop (r .from) (r .held) ≡ [] ⌝ }
     {
-        Stack { held: [fill; N], from: N }
+        Stack {
+            held: [fill; N],
+            from: N,
+        }
     }
 
     pub fn top(&self) -> Option<T>

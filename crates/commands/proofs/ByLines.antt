@@ -71,8 +71,8 @@ joined-lines : (bs : List ℕ) → joined (lines bs) ≡ bs
 joined-lines [] = refl
 joined-lines (b ∷ bs) =
     elim (eqb b 10) as (λ t. joined (cond t ((b ∷ []) ∷ lines bs) (onto-first b (lines bs))) ≡ b ∷ bs) [
-      true ↦ ap (λ l. b ∷ l) (joined-lines bs)
-    | false ↦ joined-onto b (lines bs) ∙ ap (λ l. b ∷ l) (joined-lines bs)
+      | true ↦ ap (λ l. b ∷ l) (joined-lines bs)
+      | false ↦ joined-onto b (lines bs) ∙ ap (λ l. b ∷ l) (joined-lines bs)
     ]
 
 more-more : (q : List ℕ) (b : ℕ) (l : List ℕ) (g : Body) → more (q ++ (b ∷ [])) (more l g) ≡ more (q ++ (b ∷ l)) g
@@ -124,8 +124,8 @@ module _ (s : Bool) (d : List ℕ) where
     other-more : run s d other (b ∷ bs) ≡ passing (lines (b ∷ bs))
     other-more =
         elim (cases-bool (eqb b 10)) [
-          inl e ↦ rw e (ap (more (b ∷ [])) (h .fresh-is))
-        | inr e ↦ rw e (ap (more (b ∷ [])) (h .other-is) ∙ pass-on (lines bs))
+          | inl e ↦ rw e (ap (more (b ∷ [])) (h .fresh-is))
+          | inr e ↦ rw e (ap (more (b ∷ [])) (h .other-is) ∙ pass-on (lines bs))
         ]
 
     module _ (e : eqb b 10 ≡ false) (q : List ℕ) where
@@ -145,15 +145,15 @@ module _ (s : Bool) (d : List ℕ) where
     same-more : (q r : List ℕ) → run s d (same q r) (b ∷ bs) ≡ matching q r (lines (b ∷ bs))
     same-more q [] =
         elim (cases-bool (eqb b 10)) [
-          inl e ↦ rw (e, e) (sym (ap (body []) (joined-lines bs)))
-        | inr e ↦ rw e (ap (more (q ++ (b ∷ []))) (h .other-is) ∙ past-end e q (lines bs))
+          | inl e ↦ rw (e, e) (sym (ap (body []) (joined-lines bs)))
+          | inr e ↦ rw e (ap (more (q ++ (b ∷ []))) (h .other-is) ∙ past-end e q (lines bs))
         ]
     same-more q (x ∷ r) =
         elim (cases-bool (eqb b 10)) [
-          inl e ↦ rw (e, e) (ap (more (q ++ (b ∷ []))) (h .fresh-is))
-        | inr e ↦ elim (cases-bool (eqb b x)) [
-            inl f ↦ rw (e, f) (h .same-is (q ++ (b ∷ [])) r ∙ met e q x r f (lines bs))
-          | inr f ↦ rw (e, f) (ap (more (q ++ (b ∷ []))) (h .other-is) ∙ missed e q x r f (lines bs))
+          | inl e ↦ rw (e, e) (ap (more (q ++ (b ∷ []))) (h .fresh-is))
+          | inr e ↦ elim (cases-bool (eqb b x)) [
+            | inl f ↦ rw (e, f) (h .same-is (q ++ (b ∷ [])) r ∙ met e q x r f (lines bs))
+            | inr f ↦ rw (e, f) (ap (more (q ++ (b ∷ []))) (h .other-is) ∙ missed e q x r f (lines bs))
           ]
         ]
 
@@ -176,8 +176,8 @@ module _ (s : Bool) (d : List ℕ) where
     tabs-more : run s d tabs (b ∷ bs) ≡ tabbed (lines (b ∷ bs))
     tabs-more =
         elim (cases-bool (s && eqb b 9)) [
-          inl e ↦ rw (e, tab-no-newline s b e) (h .tabs-is ∙ tab-on e (lines bs))
-        | inr e ↦ rw e (same-more [] d ∙ begun-lines e)
+          | inl e ↦ rw (e, tab-no-newline s b e) (h .tabs-is ∙ tab-on e (lines bs))
+          | inr e ↦ rw e (same-more [] d ∙ begun-lines e)
         ]
 
     full-onto : (ls : List (List ℕ)) → tabbed (onto-first b ls) ≡ before s d (onto-first b ls)
@@ -193,7 +193,6 @@ module _ (s : Bool) (d : List ℕ) where
   claims : (bs : List ℕ) → Claims bs
   claims [] = record { fresh-is = refl; tabs-is = refl; other-is = refl; same-is = λ q r. refl }
   claims (b ∷ bs) = claims-more b bs (claims bs)
-
 
 -- the line as the reader keeps it
 
@@ -218,17 +217,17 @@ module _ (d : Document) where
   compared-is : (n b : ℕ) → toOf (compared n delimiter b) b ≡ compare (take n delimiter) (drop n delimiter) b
   compared-is n b =
       elim (cases-lt n (length delimiter)) [
-        inl l ↦ elim (cases-bool (eqb b 10)) [
-            inl e ↦ rw (e, lt-ltb n (length delimiter) l) (sym (ap (λ r. compare (take n delimiter) r b) (drop-more delimiter n 0 l) ∙ rw e refl))
+        | inl l ↦ elim (cases-bool (eqb b 10)) [
+          | inl e ↦ rw (e, lt-ltb n (length delimiter) l) (sym (ap (λ r. compare (take n delimiter) r b) (drop-more delimiter n 0 l) ∙ rw e refl))
           | inr e ↦ elim (cases-bool (eqb b (getD delimiter n 0))) [
-              inl f ↦ rw (e, lt-ltb n (length delimiter) l, f) (ap (λ t. to passes (same t (drop (n + 1) delimiter))) (take-more delimiter n 0 l ∙ ap (λ x. take n delimiter ++ (x ∷ [])) (sym (eqb-true b (getD delimiter n 0) f))) ∙ sym (ap (λ r. compare (take n delimiter) r b) (drop-more delimiter n 0 l) ∙ rw (e, f) refl))
+            | inl f ↦ rw (e, lt-ltb n (length delimiter) l, f) (ap (λ t. to passes (same t (drop (n + 1) delimiter))) (take-more delimiter n 0 l ∙ ap (λ x. take n delimiter ++ (x ∷ [])) (sym (eqb-true b (getD delimiter n 0) f))) ∙ sym (ap (λ r. compare (take n delimiter) r b) (drop-more delimiter n 0 l) ∙ rw (e, f) refl))
             | inr f ↦ rw (e, lt-ltb n (length delimiter) l, f) (sym (ap (λ r. compare (take n delimiter) r b) (drop-more delimiter n 0 l) ∙ rw (e, f) refl))
-            ]
           ]
-      | inr l ↦ elim (cases-bool (eqb b 10)) [
-            inl e ↦ rw (e, le-ltb n (length delimiter) l) (sym (ap (λ r. compare (take n delimiter) r b) (drop-all n delimiter l) ∙ rw e refl))
+        ]
+        | inr l ↦ elim (cases-bool (eqb b 10)) [
+          | inl e ↦ rw (e, le-ltb n (length delimiter) l) (sym (ap (λ r. compare (take n delimiter) r b) (drop-all n delimiter l) ∙ rw e refl))
           | inr e ↦ rw (e, le-ltb n (length delimiter) l) (sym (ap (λ r. compare (take n delimiter) r b) (drop-all n delimiter l) ∙ rw e refl))
-          ]
+        ]
       ]
 
   first-is : (b : ℕ) (y : Bool) → toOf (cond y (record { gives = Nothing; line = Tabs }) (compared 0 delimiter b)) b ≡ cond y (to passes tabs) (compare [] delimiter b)
@@ -244,8 +243,8 @@ module _ (d : Document) where
   none-left : (n : ℕ) → leb (length delimiter) n ≡ sameBytes [] (drop n delimiter)
   none-left n =
       elim (cases-lt n (length delimiter)) [
-        inl h ↦ lt-leb (length delimiter) n h ∙ sym (ap (sameBytes []) (drop-more delimiter n 0 h))
-      | inr h ↦ le-leb (length delimiter) n h ∙ sym (ap (sameBytes []) (drop-all n delimiter h))
+        | inl h ↦ lt-leb (length delimiter) n h ∙ sym (ap (sameBytes []) (drop-more delimiter n 0 h))
+        | inr h ↦ le-leb (length delimiter) n h ∙ sym (ap (sameBytes []) (drop-all n delimiter h))
       ]
 
   end-is : (l : Line) → line-is d l ≡ ended delimiter (lineOf l)

@@ -11,14 +11,26 @@ fn compare(n: usize, delimiter: &[u8], b: u8) -> LineByte
 {
     if b == b'\n' {
         if n < delimiter.len() {
-            LineByte { gives: Gives::Letters(n), line: Line::Fresh }
+            LineByte {
+                gives: Gives::Letters(n),
+                line: Line::Fresh,
+            }
         } else {
-            LineByte { gives: Gives::Ends, line: Line::Fresh }
+            LineByte {
+                gives: Gives::Ends,
+                line: Line::Fresh,
+            }
         }
     } else if n < delimiter.len() && b == delimiter[n] {
-        LineByte { gives: Gives::Nothing, line: Line::Same(n + 1) }
+        LineByte {
+            gives: Gives::Nothing,
+            line: Line::Same(n + 1),
+        }
     } else {
-        LineByte { gives: Gives::Letters(n), line: Line::Other }
+        LineByte {
+            gives: Gives::Letters(n),
+            line: Line::Other,
+        }
     }
 }
 
@@ -29,7 +41,10 @@ pub fn line_byte(dash: bool, delimiter: &[u8], line: Line, b: u8) -> LineByte
     match line {
         Line::Fresh | Line::Tabs => {
             if dash && b == b'\t' {
-                LineByte { gives: Gives::Nothing, line: Line::Tabs }
+                LineByte {
+                    gives: Gives::Nothing,
+                    line: Line::Tabs,
+                }
             } else {
                 compare(0, delimiter, b)
             }
@@ -37,9 +52,15 @@ pub fn line_byte(dash: bool, delimiter: &[u8], line: Line, b: u8) -> LineByte
         Line::Same(n) => compare(n, delimiter, b),
         Line::Other => {
             if b == b'\n' {
-                LineByte { gives: Gives::Letters(0), line: Line::Fresh }
+                LineByte {
+                    gives: Gives::Letters(0),
+                    line: Line::Fresh,
+                }
             } else {
-                LineByte { gives: Gives::Letters(0), line: Line::Other }
+                LineByte {
+                    gives: Gives::Letters(0),
+                    line: Line::Other,
+                }
             }
         }
     }

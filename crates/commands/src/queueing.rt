@@ -18,7 +18,13 @@ impl Queue {
     pub fn new() -> Self
         ensures { λ r. ⌜ waitingOf r ≡ [] ⌝ }
     {
-        Queue { held: [Waiting { dash: false, delimiter: Kept::new() }; 8], count: 0 }
+        Queue {
+            held: [Waiting {
+                dash: false,
+                delimiter: Kept::new(),
+            }; 8],
+            count: 0,
+        }
     }
 
     // One more at the end, unless 8 wait, and whether it is taken.
@@ -76,6 +82,10 @@ impl Queue {
     pub fn delimiter(&self, n: usize) -> &[u8]
         ensures { λ r. ⌜ now r ≡ getD (waitingOf (now (self .entry))) n no-document .delimiter ⌝ }
     {
-        if n < self.count { self.held[n].delimiter.text() } else { b"" }
+        if n < self.count {
+            self.held[n].delimiter.text()
+        } else {
+            b""
+        }
     }
 }

@@ -47,14 +47,23 @@ pub fn use_of(g: Stage, reserved: bool, assign: bool) -> Option<Use>
     ensures { λ r. ⌜ r ≡ useOf g reserved assign ⌝ }
 {
     match g {
-        Stage::Args => Some(Use { role: Role::Arg, stage: Stage::Args }),
+        Stage::Args => Some(Use {
+            role: Role::Arg,
+            stage: Stage::Args,
+        }),
         Stage::Done => None,
         Stage::Start | Stage::Must if reserved => None,
         _ => {
             if assign {
-                Some(Use { role: Role::Assign, stage: Stage::Head })
+                Some(Use {
+                    role: Role::Assign,
+                    stage: Stage::Head,
+                })
             } else {
-                Some(Use { role: Role::Name, stage: Stage::Args })
+                Some(Use {
+                    role: Role::Name,
+                    stage: Stage::Args,
+                })
             }
         }
     }
@@ -65,7 +74,12 @@ pub fn is_name(u: Option<Use>) -> bool
     ensures { λ r. ⌜ r ≡ isNameUse u ⌝ }
 {
     match u {
-        Some(Use { role: Role::Name, stage: _ }) => true,
+        Some(
+            Use {
+                role: Role::Name,
+                stage: _,
+            },
+        ) => true,
         _ => false,
     }
 }

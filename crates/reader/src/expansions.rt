@@ -10,6 +10,10 @@ ghost use Rattle.commands.specs.Redirections.{isTarget};
 ghost use Rattle.reading.specs.Expansions.{spelled, no-expansion, expanded, entered, opens, substitutes, ordinary, settle, gone-on, go-on};
 ghost use Rattle.tokens.specs.declared.begun.Begun.the-variants.{Dollar, BraceName};
 ghost use Rattle.reader.specs.Holding.{stateOf};
+use crate::sink::Sink;
+use crate::state::Command;
+use crate::state::State;
+use crate::words::is_assigned;
 use basics::refusal::Reason;
 use basics::refusal::Refusal;
 use commands::awaited::Awaited;
@@ -17,10 +21,6 @@ use commands::frame::Frame;
 use commands::frame::Outer;
 use commands::item::Kind;
 use commands::stage::Stage;
-use crate::sink::Sink;
-use crate::state::Command;
-use crate::state::State;
-use crate::words::is_assigned;
 use reading::act::Act;
 use reading::act::At;
 use reading::act::Fault;
@@ -45,40 +45,97 @@ fn awaits_target(a: Awaited) -> bool
 
 impl State {
     // Letters of an expansion, of which `rest` is begun after them.
-    fn spell_one<W: Sink>(&mut self, b: u8, rest: Begun, place: u16, out: &mut W) -> Result<(), Refusal>
+    fn spell_one<W: Sink>(
+        &mut self,
+        b: u8,
+        rest: Begun,
+        place: u16,
+        out: &mut W,
+    ) -> Result<(), Refusal>
         ensures { λ r. ⌜ result r (held (stateOf (now (self .exit))) (W·Sink .sheet (now (out .exit)))) ≡ lays (W·Sink .written) (W·Sink .placed) place (spelled (b ∷ []) rest (stateOf (now (self .entry)))) (W·Sink .sheet (now (out .entry))) ⌝ }
     {
         if let Mode::Gap = self.word.mode {
             out.put(Act::WordAtDollar, place)?;
         }
-        out.put(Act::Letter(Letter { mark: Mark::Expansion, byte: b }), place)?;
+        out.put(
+            Act::Letter(Letter {
+                mark: Mark::Expansion,
+                byte: b,
+            }),
+            place,
+        )?;
         self.enter();
         self.begun = rest;
         Ok(())
     }
 
-    fn spell_two<W: Sink>(&mut self, a: u8, b: u8, rest: Begun, place: u16, out: &mut W) -> Result<(), Refusal>
+    fn spell_two<W: Sink>(
+        &mut self,
+        a: u8,
+        b: u8,
+        rest: Begun,
+        place: u16,
+        out: &mut W,
+    ) -> Result<(), Refusal>
         ensures { λ r. ⌜ result r (held (stateOf (now (self .exit))) (W·Sink .sheet (now (out .exit)))) ≡ lays (W·Sink .written) (W·Sink .placed) place (spelled (a ∷ b ∷ []) rest (stateOf (now (self .entry)))) (W·Sink .sheet (now (out .entry))) ⌝ }
     {
         if let Mode::Gap = self.word.mode {
             out.put(Act::WordAtDollar, place)?;
         }
-        out.put(Act::Letter(Letter { mark: Mark::Expansion, byte: a }), place)?;
-        out.put(Act::Letter(Letter { mark: Mark::Expansion, byte: b }), place)?;
+        out.put(
+            Act::Letter(Letter {
+                mark: Mark::Expansion,
+                byte: a,
+            }),
+            place,
+        )?;
+        out.put(
+            Act::Letter(Letter {
+                mark: Mark::Expansion,
+                byte: b,
+            }),
+            place,
+        )?;
         self.enter();
         self.begun = rest;
         Ok(())
     }
 
-    fn spell_three<W: Sink>(&mut self, a: u8, b: u8, c: u8, rest: Begun, place: u16, out: &mut W) -> Result<(), Refusal>
+    fn spell_three<W: Sink>(
+        &mut self,
+        a: u8,
+        b: u8,
+        c: u8,
+        rest: Begun,
+        place: u16,
+        out: &mut W,
+    ) -> Result<(), Refusal>
         ensures { λ r. ⌜ result r (held (stateOf (now (self .exit))) (W·Sink .sheet (now (out .exit)))) ≡ lays (W·Sink .written) (W·Sink .placed) place (spelled (a ∷ b ∷ c ∷ []) rest (stateOf (now (self .entry)))) (W·Sink .sheet (now (out .entry))) ⌝ }
     {
         if let Mode::Gap = self.word.mode {
             out.put(Act::WordAtDollar, place)?;
         }
-        out.put(Act::Letter(Letter { mark: Mark::Expansion, byte: a }), place)?;
-        out.put(Act::Letter(Letter { mark: Mark::Expansion, byte: b }), place)?;
-        out.put(Act::Letter(Letter { mark: Mark::Expansion, byte: c }), place)?;
+        out.put(
+            Act::Letter(Letter {
+                mark: Mark::Expansion,
+                byte: a,
+            }),
+            place,
+        )?;
+        out.put(
+            Act::Letter(Letter {
+                mark: Mark::Expansion,
+                byte: b,
+            }),
+            place,
+        )?;
+        out.put(
+            Act::Letter(Letter {
+                mark: Mark::Expansion,
+                byte: c,
+            }),
+            place,
+        )?;
         self.enter();
         self.begun = rest;
         Ok(())
@@ -91,11 +148,23 @@ impl State {
         if let Mode::Gap = self.word.mode {
             out.put(Act::WordAtDollar, place)?;
         }
-        Err(out.refusal(Fault { reason: Reason::HereDocument, at: At::First }, place))
+        Err(out.refusal(
+            Fault {
+                reason: Reason::HereDocument,
+                at: At::First,
+            },
+            place,
+        ))
     }
 
     // The same where it is known to be one that is taken.
-    fn expand_one<W: Sink>(&mut self, b: u8, rest: Begun, place: u16, out: &mut W) -> Result<(), Refusal>
+    fn expand_one<W: Sink>(
+        &mut self,
+        b: u8,
+        rest: Begun,
+        place: u16,
+        out: &mut W,
+    ) -> Result<(), Refusal>
         ensures { λ r. ⌜ result r (held (stateOf (now (self .exit))) (W·Sink .sheet (now (out .exit)))) ≡ lays (W·Sink .written) (W·Sink .placed) place (expanded (b ∷ []) rest (stateOf (now (self .entry)))) (W·Sink .sheet (now (out .entry))) ⌝ }
     {
         match self.command.awaited {
@@ -104,7 +173,14 @@ impl State {
         }
     }
 
-    fn expand_two<W: Sink>(&mut self, a: u8, b: u8, rest: Begun, place: u16, out: &mut W) -> Result<(), Refusal>
+    fn expand_two<W: Sink>(
+        &mut self,
+        a: u8,
+        b: u8,
+        rest: Begun,
+        place: u16,
+        out: &mut W,
+    ) -> Result<(), Refusal>
         ensures { λ r. ⌜ result r (held (stateOf (now (self .exit))) (W·Sink .sheet (now (out .exit)))) ≡ lays (W·Sink .written) (W·Sink .placed) place (expanded (a ∷ b ∷ []) rest (stateOf (now (self .entry)))) (W·Sink .sheet (now (out .entry))) ⌝ }
     {
         match self.command.awaited {
@@ -122,11 +198,20 @@ impl State {
                 out.put(Act::WordAtDollar, place)?;
             }
             out.put(Act::Item(Kind::Part, self.frames.depth(), At::Word), place)?;
-            out.put(Act::Item(Kind::Open, self.frames.depth(), At::Dollar), place)?;
+            out.put(
+                Act::Item(Kind::Open, self.frames.depth(), At::Dollar),
+                place,
+            )?;
             self.enter_substitution();
             Ok(())
         } else {
-            Err(out.refusal(Fault { reason: Reason::TooDeep, at: At::Dollar }, place))
+            Err(out.refusal(
+                Fault {
+                    reason: Reason::TooDeep,
+                    at: At::Dollar,
+                },
+                place,
+            ))
         }
     }
 
@@ -144,7 +229,10 @@ impl State {
         let _ = self.frames.push(Frame::Substitution(outer));
         self.begun = Begun::Nothing;
         self.word.set(Mode::Gap);
-        self.command = Command { stage: Stage::Start, awaited: Awaited::Nothing };
+        self.command = Command {
+            stage: Stage::Start,
+            awaited: Awaited::Nothing,
+        };
         self.documents.outside = self.documents.waiting.count();
     }
 
@@ -182,7 +270,13 @@ impl State {
                 self.begun = Begun::Nothing;
                 Ok(())
             }
-            Begun::Brace | Begun::BraceName => Err(out.refusal(Fault { reason: Reason::ExpansionNotTaken, at: At::Dollar }, place)),
+            Begun::Brace | Begun::BraceName => Err(out.refusal(
+                Fault {
+                    reason: Reason::ExpansionNotTaken,
+                    at: At::Dollar,
+                },
+                place,
+            )),
             Begun::Operator(o) => self.give(o, place, out),
         }
     }
@@ -198,7 +292,11 @@ impl State {
             self.begun = Begun::Brace;
             Ok(())
         } else {
-            let rest = if is_name_start(b) { Begun::Name } else { Begun::Nothing };
+            let rest = if is_name_start(b) {
+                Begun::Name
+            } else {
+                Begun::Nothing
+            };
             self.expand_two(b'$', b, rest, place, out)
         }
     }
@@ -212,7 +310,13 @@ impl State {
         } else if b == b'}' {
             self.expand_one(b, Begun::Nothing, place, out)
         } else {
-            Err(out.refusal(Fault { reason: Reason::ExpansionNotTaken, at: At::Dollar }, place))
+            Err(out.refusal(
+                Fault {
+                    reason: Reason::ExpansionNotTaken,
+                    at: At::Dollar,
+                },
+                place,
+            ))
         }
     }
 
@@ -223,13 +327,25 @@ impl State {
         match self.begun {
             Begun::Nothing => Ok(()),
             Begun::Dollar => self.go_on_dollar(b, place, out),
-            Begun::Paren => Err(out.refusal(Fault { reason: Reason::ExpansionNotTaken, at: At::Dollar }, place)),
+            Begun::Paren => Err(out.refusal(
+                Fault {
+                    reason: Reason::ExpansionNotTaken,
+                    at: At::Dollar,
+                },
+                place,
+            )),
             Begun::Name => self.expand_one(b, Begun::Name, place, out),
             Begun::Brace => {
                 if is_name_start(b) {
                     self.spell_three(b'$', b'{', b, Begun::BraceName, place, out)
                 } else {
-                    Err(out.refusal(Fault { reason: Reason::ExpansionNotTaken, at: At::Dollar }, place))
+                    Err(out.refusal(
+                        Fault {
+                            reason: Reason::ExpansionNotTaken,
+                            at: At::Dollar,
+                        },
+                        place,
+                    ))
                 }
             }
             Begun::BraceName => self.go_on_name(b, place, out),

@@ -4,13 +4,13 @@ ghost use Rattle.reading.specs.Laid.{held};
 ghost use Rattle.reader.specs.Held.{result, lays};
 ghost use Rattle.reading.specs.Holes.{open-to-hole, not-taken, hole-at, hole-after, hole-in};
 ghost use Rattle.reader.specs.Holding.{stateOf};
+use crate::sink::Sink;
+use crate::state::State;
+use crate::words::is_assigned;
 use basics::refusal::Reason;
 use basics::refusal::Refusal;
 use commands::awaited::Awaited;
 use commands::stage::Stage;
-use crate::sink::Sink;
-use crate::state::State;
-use crate::words::is_assigned;
 use reading::act::Act;
 use reading::act::At;
 use reading::act::Fault;
@@ -37,11 +37,27 @@ impl State {
     {
         match top {
             Top::Command => {
-                if !is_open_to_hole(self.command.awaited, self.command.stage, is_assigned(self.word.mode)) {
-                    return Err(out.refusal(Fault { reason: Reason::HoleNotTaken, at: At::Here }, place));
+                if !is_open_to_hole(
+                    self.command.awaited,
+                    self.command.stage,
+                    is_assigned(self.word.mode),
+                ) {
+                    return Err(out.refusal(
+                        Fault {
+                            reason: Reason::HoleNotTaken,
+                            at: At::Here,
+                        },
+                        place,
+                    ));
                 }
                 if self.frames.depth() >= 32 {
-                    return Err(out.refusal(Fault { reason: Reason::TooDeep, at: At::Here }, place));
+                    return Err(out.refusal(
+                        Fault {
+                            reason: Reason::TooDeep,
+                            at: At::Here,
+                        },
+                        place,
+                    ));
                 }
                 if let Mode::Gap = self.word.mode {
                     out.put(Act::WordHere, place)?;
@@ -49,7 +65,13 @@ impl State {
                 self.enter();
                 Ok(())
             }
-            Top::Single | Top::Double => Err(out.refusal(Fault { reason: Reason::HoleNotTaken, at: At::Here }, place)),
+            Top::Single | Top::Double => Err(out.refusal(
+                Fault {
+                    reason: Reason::HoleNotTaken,
+                    at: At::Here,
+                },
+                place,
+            )),
         }
     }
 
@@ -58,19 +80,36 @@ impl State {
         ensures { λ r. ⌜ result r (held (stateOf (now (self .exit))) (W·Sink .sheet (now (out .exit)))) ≡ lays (W·Sink .written) (W·Sink .placed) place (hole-after (stateOf (now (self .entry)))) (W·Sink .sheet (now (out .entry))) ⌝ }
     {
         if self.begun.is_dollar() {
-            return Err(out.refusal(Fault { reason: Reason::HoleNotTaken, at: At::Here }, place));
+            return Err(out.refusal(
+                Fault {
+                    reason: Reason::HoleNotTaken,
+                    at: At::Here,
+                },
+                place,
+            ));
         }
         self.settle(place, out)?;
         let top = self.top();
         self.hole_at(top, place, out)
     }
 
-    pub fn hole_in<W: Sink>(&mut self, region: Region, place: u16, out: &mut W) -> Result<(), Refusal>
+    pub fn hole_in<W: Sink>(
+        &mut self,
+        region: Region,
+        place: u16,
+        out: &mut W,
+    ) -> Result<(), Refusal>
         ensures { λ r. ⌜ result r (held (stateOf (now (self .exit))) (W·Sink .sheet (now (out .exit)))) ≡ lays (W·Sink .written) (W·Sink .placed) place (hole-in (stateOf (now (self .entry))) region) (W·Sink .sheet (now (out .entry))) ⌝ }
     {
         match region {
             Region::Text => self.hole_after(place, out),
-            _ => Err(out.refusal(Fault { reason: Reason::HoleNotTaken, at: At::Here }, place)),
+            _ => Err(out.refusal(
+                Fault {
+                    reason: Reason::HoleNotTaken,
+                    at: At::Here,
+                },
+                place,
+            )),
         }
     }
 }

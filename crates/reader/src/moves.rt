@@ -8,6 +8,12 @@ ghost use Rattle.reading.specs.Holes.{hole};
 ghost use Rattle.commands.specs.Redirections.{isFree};
 ghost use Rattle.reading.specs.Moves.{isMust, byte, byte-escaped, alias-end, unfinished, finish, last-line, end-in, end, plain-name, name-here, named, without-word};
 ghost use Rattle.reader.specs.Holding.{stateOf, controlOf};
+use crate::sink::Sink;
+use crate::state::Command;
+use crate::state::Documents;
+use crate::state::Reader;
+use crate::state::State;
+use crate::state::Word;
 use basics::refusal::Reason;
 use basics::refusal::Refusal;
 use basics::stack::Stack;
@@ -16,12 +22,6 @@ use commands::frame::Frame;
 use commands::queue::Queue;
 use commands::role::is_name;
 use commands::stage::Stage;
-use crate::sink::Sink;
-use crate::state::Command;
-use crate::state::Documents;
-use crate::state::Reader;
-use crate::state::State;
-use crate::state::Word;
 use reading::act::Act;
 use reading::act::At;
 use reading::act::Fault;
@@ -91,9 +91,21 @@ impl State {
         ensures { λ r. ⌜ result r (held (stateOf (now (self .exit))) (W·Sink .sheet (now (out .exit)))) ≡ lays (W·Sink .written) (W·Sink .placed) place (finish (stateOf (now (self .entry)))) (W·Sink .sheet (now (out .entry))) ⌝ }
     {
         if self.is_unfinished() {
-            Err(out.refusal(Fault { reason: Reason::Unfinished, at: At::Here }, place))
+            Err(out.refusal(
+                Fault {
+                    reason: Reason::Unfinished,
+                    at: At::Here,
+                },
+                place,
+            ))
         } else if self.documents.waits() {
-            Err(out.refusal(Fault { reason: Reason::HereDocument, at: At::Here }, place))
+            Err(out.refusal(
+                Fault {
+                    reason: Reason::HereDocument,
+                    at: At::Here,
+                },
+                place,
+            ))
         } else {
             Ok(())
         }
@@ -124,7 +136,13 @@ impl State {
                 self.last_line(place, out)?;
                 self.finish(place, out)
             }
-            Top::Single | Top::Double => Err(out.refusal(Fault { reason: Reason::OpenQuote, at: At::Here }, place)),
+            Top::Single | Top::Double => Err(out.refusal(
+                Fault {
+                    reason: Reason::OpenQuote,
+                    at: At::Here,
+                },
+                place,
+            )),
         }
     }
 
@@ -149,10 +167,20 @@ impl Reader {
             escape: false,
             at: State {
                 begun: Begun::Nothing,
-                word: Word { mode: Mode::Gap, kept: Kept::new() },
+                word: Word {
+                    mode: Mode::Gap,
+                    kept: Kept::new(),
+                },
                 frames: Stack::new(Frame::Group),
-                command: Command { stage: Stage::Start, awaited: Awaited::Nothing },
-                documents: Documents { letters: Kept::new(), waiting: Queue::new(), outside: 0 },
+                command: Command {
+                    stage: Stage::Start,
+                    awaited: Awaited::Nothing,
+                },
+                documents: Documents {
+                    letters: Kept::new(),
+                    waiting: Queue::new(),
+                    outside: 0,
+                },
             },
         }
     }
@@ -188,7 +216,13 @@ impl Reader {
         if self.escape {
             self.escape = false;
             self.at.settle(place, out)?;
-            return Err(out.refusal(Fault { reason: Reason::HoleNotTaken, at: At::Here }, place));
+            return Err(out.refusal(
+                Fault {
+                    reason: Reason::HoleNotTaken,
+                    at: At::Here,
+                },
+                place,
+            ));
         }
         let top = self.at.top();
         let region = region_of(self.at.word.mode, top);
@@ -212,7 +246,13 @@ impl Reader {
         self.escape = false;
         self.at.settle(place, out)?;
         if escape {
-            return Err(out.refusal(Fault { reason: Reason::OpenQuote, at: At::Here }, place));
+            return Err(out.refusal(
+                Fault {
+                    reason: Reason::OpenQuote,
+                    at: At::Here,
+                },
+                place,
+            ));
         }
         let top = self.at.top();
         self.at.end_in(top, place, out)

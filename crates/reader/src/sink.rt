@@ -13,6 +13,7 @@ use reading::act::Fault;
 pub trait Sink {
     // what it holds
     ghost Sheet: { Type 0 };
+
     ghost sheet: { Self → Sheet };
     // what it holds after an act at a place, or that there is no room for it
     ghost written: { Act → ℕ → Sheet → Result Sheet Refusal };

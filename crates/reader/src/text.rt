@@ -8,14 +8,14 @@ ghost use Rattle.tokens.specs.declared.letter.Mark.the-variants.{Body};
 ghost use Rattle.reading.specs.Steps.{writes, done};
 ghost use Rattle.reading.specs.Text.{push, pop, dollar-here, comment-or-letter, in-command, in-double, in-single, work, in-text, escaped, in-comment, body-ends, body-goes, in-body};
 ghost use Rattle.reader.specs.Holding.{stateOf, Any-state};
+use crate::sink::Sink;
+use crate::state::State;
 use basics::refusal::Reason;
 use basics::refusal::Refusal;
 use commands::frame::Frame;
 use commands::item::Kind;
 use commands::line::Gives;
 use commands::line::Line;
-use crate::sink::Sink;
-use crate::state::State;
 use reading::act::Act;
 use reading::act::At;
 use reading::act::Fault;
@@ -35,7 +35,13 @@ fn put_body<W: Sink>(letters: &[u8], place: u16, out: &mut W) -> Result<(), Refu
 {
     let mut k = 0;
     while k < letters.len() {
-        out.put(Act::Letter(Letter { mark: Mark::Body, byte: letters[k] }), place)?;
+        out.put(
+            Act::Letter(Letter {
+                mark: Mark::Body,
+                byte: letters[k],
+            }),
+            place,
+        )?;
         k += 1;
     }
     Ok(())
@@ -45,7 +51,11 @@ fn put_body<W: Sink>(letters: &[u8], place: u16, out: &mut W) -> Result<(), Refu
 fn front(text: &[u8], most: usize) -> &[u8]
     ensures { λ r. ⌜ now r ≡ take most (now (text .entry)) ⌝ }
 {
-    if text.len() > most { &text[0..most] } else { text }
+    if text.len() > most {
+        &text[0..most]
+    } else {
+        text
+    }
 }
 
 impl State {
@@ -61,7 +71,13 @@ impl State {
             let _ = self.frames.push(f);
             Ok(())
         } else {
-            Err(out.refusal(Fault { reason: Reason::TooDeep, at: At::Here }, place))
+            Err(out.refusal(
+                Fault {
+                    reason: Reason::TooDeep,
+                    at: At::Here,
+                },
+                place,
+            ))
         }
     }
 
@@ -88,7 +104,13 @@ impl State {
     }
 
     // Where nothing is begun; a backslash was seen to before.
-    fn in_command<W: Sink>(&mut self, c: Class, b: u8, place: u16, out: &mut W) -> Result<(), Refusal>
+    fn in_command<W: Sink>(
+        &mut self,
+        c: Class,
+        b: u8,
+        place: u16,
+        out: &mut W,
+    ) -> Result<(), Refusal>
         ensures { λ r. ⌜ result r (held (stateOf (now (self .exit))) (W·Sink .sheet (now (out .exit)))) ≡ lays (W·Sink .written) (W·Sink .placed) place (in-command c b (stateOf (now (self .entry)))) (W·Sink .sheet (now (out .entry))) ⌝ }
     {
         match c {
@@ -106,7 +128,13 @@ impl State {
             Class::DoubleQuote => self.push_frame(Frame::Double, place, out),
             Class::Backslash => Ok(()),
             Class::Dollar => self.dollar_here(place, out),
-            Class::Backquote => Err(out.refusal(Fault { reason: Reason::ExpansionNotTaken, at: At::Here }, place)),
+            Class::Backquote => Err(out.refusal(
+                Fault {
+                    reason: Reason::ExpansionNotTaken,
+                    at: At::Here,
+                },
+                place,
+            )),
             Class::Hash => self.comment_or_letter(b, place, out),
         }
     }
@@ -120,7 +148,13 @@ impl State {
         } else if b == b'$' {
             self.dollar_here(place, out)
         } else if b == b'`' {
-            Err(out.refusal(Fault { reason: Reason::ExpansionNotTaken, at: At::Here }, place))
+            Err(out.refusal(
+                Fault {
+                    reason: Reason::ExpansionNotTaken,
+                    at: At::Here,
+                },
+                place,
+            ))
         } else {
             self.quoted(b, Act::WordHere, place, out)
         }
@@ -162,7 +196,13 @@ impl State {
     }
 
     // After a backslash that stands: in double quotes it quotes few bytes, and before any other is itself a letter.
-    pub fn escaped<W: Sink>(&mut self, b: u8, top: Top, place: u16, out: &mut W) -> Result<(), Refusal>
+    pub fn escaped<W: Sink>(
+        &mut self,
+        b: u8,
+        top: Top,
+        place: u16,
+        out: &mut W,
+    ) -> Result<(), Refusal>
         ensures { λ r. ⌜ result r (held (stateOf (now (self .exit))) (W·Sink .sheet (now (out .exit)))) ≡ lays (W·Sink .written) (W·Sink .placed) place (escaped b (stateOf (now (self .entry))) top) (W·Sink .sheet (now (out .entry))) ⌝ }
     {
         match top {
@@ -199,7 +239,15 @@ impl State {
         }
     }
 
-    fn body_goes<W: Sink>(&mut self, b: u8, n: usize, gives: Gives, line: Line, place: u16, out: &mut W) -> Result<(), Refusal>
+    fn body_goes<W: Sink>(
+        &mut self,
+        b: u8,
+        n: usize,
+        gives: Gives,
+        line: Line,
+        place: u16,
+        out: &mut W,
+    ) -> Result<(), Refusal>
         ensures { λ r. ⌜ result r (held (stateOf (now (self .exit))) (W·Sink .sheet (now (out .exit)))) ≡ lays (W·Sink .written) (W·Sink .placed) place (body-goes b n gives line (stateOf (now (self .entry)))) (W·Sink .sheet (now (out .entry))) ⌝ }
     {
         match gives {
@@ -209,7 +257,13 @@ impl State {
             }
             Gives::Letters(k) => {
                 put_body(front(self.documents.waiting.delimiter(n), k), place, out)?;
-                out.put(Act::Letter(Letter { mark: Mark::Body, byte: b }), place)?;
+                out.put(
+                    Act::Letter(Letter {
+                        mark: Mark::Body,
+                        byte: b,
+                    }),
+                    place,
+                )?;
                 self.word.set(Mode::Body(n, line));
                 Ok(())
             }
@@ -217,7 +271,14 @@ impl State {
         }
     }
 
-    pub fn in_body<W: Sink>(&mut self, b: u8, n: usize, line: Line, place: u16, out: &mut W) -> Result<(), Refusal>
+    pub fn in_body<W: Sink>(
+        &mut self,
+        b: u8,
+        n: usize,
+        line: Line,
+        place: u16,
+        out: &mut W,
+    ) -> Result<(), Refusal>
         ensures { λ r. ⌜ result r (held (stateOf (now (self .exit))) (W·Sink .sheet (now (out .exit)))) ≡ lays (W·Sink .written) (W·Sink .placed) place (in-body b n line (stateOf (now (self .entry)))) (W·Sink .sheet (now (out .entry))) ⌝ }
     {
         let read = self.documents.waiting.line_byte(n, line, b);

@@ -8,6 +8,11 @@ ghost use Rattle.reading.specs.Words.{longer, noted, bare, quoted, enter, given
 ghost use Rattle.reading.specs.Laid.{held};
 ghost use Rattle.reader.specs.Held.{result, lays};
 ghost use Rattle.reader.specs.Holding.{wordOf, commandOf, documentsOf, stateOf};
+use crate::sink::Sink;
+use crate::state::Command;
+use crate::state::Documents;
+use crate::state::State;
+use crate::state::Word;
 use basics::refusal::Reason;
 use basics::refusal::Refusal;
 use commands::awaited::Awaited;
@@ -17,11 +22,6 @@ use commands::reserved::is_reserved;
 use commands::role::Role;
 use commands::role::Use;
 use commands::role::use_of;
-use crate::sink::Sink;
-use crate::state::Command;
-use crate::state::Documents;
-use crate::state::State;
-use crate::state::Word;
 use reading::act::Act;
 use reading::act::At;
 use reading::act::Fault;
@@ -101,35 +101,68 @@ impl State {
     }
 
     // A bare letter; `from` says where a word begins with it.
-    pub fn bare<W: Sink>(&mut self, b: u8, from: Act, place: u16, out: &mut W) -> Result<(), Refusal>
+    pub fn bare<W: Sink>(
+        &mut self,
+        b: u8,
+        from: Act,
+        place: u16,
+        out: &mut W,
+    ) -> Result<(), Refusal>
         ensures { λ r. ⌜ result r (held (stateOf (now (self .exit))) (W·Sink .sheet (now (out .exit)))) ≡ lays (W·Sink .written) (W·Sink .placed) place (bare b from (stateOf (now (self .entry)))) (W·Sink .sheet (now (out .entry))) ⌝ }
     {
         if let Mode::Gap = self.word.mode {
             out.put(from, place)?;
         }
-        out.put(Act::Letter(Letter { mark: Mark::Bare, byte: b }), place)?;
+        out.put(
+            Act::Letter(Letter {
+                mark: Mark::Bare,
+                byte: b,
+            }),
+            place,
+        )?;
         self.word.lengthen(b);
         self.note(b);
         Ok(())
     }
 
-    pub fn quoted<W: Sink>(&mut self, b: u8, from: Act, place: u16, out: &mut W) -> Result<(), Refusal>
+    pub fn quoted<W: Sink>(
+        &mut self,
+        b: u8,
+        from: Act,
+        place: u16,
+        out: &mut W,
+    ) -> Result<(), Refusal>
         ensures { λ r. ⌜ result r (held (stateOf (now (self .exit))) (W·Sink .sheet (now (out .exit)))) ≡ lays (W·Sink .written) (W·Sink .placed) place (quoted b from (stateOf (now (self .entry)))) (W·Sink .sheet (now (out .entry))) ⌝ }
     {
         if let Mode::Gap = self.word.mode {
             out.put(from, place)?;
         }
-        out.put(Act::Letter(Letter { mark: Mark::Quoted, byte: b }), place)?;
+        out.put(
+            Act::Letter(Letter {
+                mark: Mark::Quoted,
+                byte: b,
+            }),
+            place,
+        )?;
         self.enter();
         self.note(b);
         Ok(())
     }
 
     // The word is given in a role, and the command goes on.
-    fn give_word<W: Sink>(&mut self, role: Role, command: Command, place: u16, out: &mut W) -> Result<(), Refusal>
+    fn give_word<W: Sink>(
+        &mut self,
+        role: Role,
+        command: Command,
+        place: u16,
+        out: &mut W,
+    ) -> Result<(), Refusal>
         ensures { λ r. ⌜ result r (held (stateOf (now (self .exit))) (W·Sink .sheet (now (out .exit)))) ≡ lays (W·Sink .written) (W·Sink .placed) place (given-as role (commandOf command) (stateOf (now (self .entry)))) (W·Sink .sheet (now (out .entry))) ⌝ }
     {
-        out.put(Act::Item(Kind::Word(role), self.frames.depth(), At::Word), place)?;
+        out.put(
+            Act::Item(Kind::Word(role), self.frames.depth(), At::Word),
+            place,
+        )?;
         self.word.set(Mode::Gap);
         self.command = command;
         Ok(())
@@ -140,16 +173,37 @@ impl State {
         ensures { λ r. ⌜ result r (held (stateOf (now (self .exit))) (W·Sink .sheet (now (out .exit)))) ≡ lays (W·Sink .written) (W·Sink .placed) place (delimited dash (stateOf (now (self .entry)))) (W·Sink .sheet (now (out .entry))) ⌝ }
     {
         if self.documents.is_bad_delimiter() {
-            return Err(out.refusal(Fault { reason: Reason::HereDocument, at: At::First }, place));
+            return Err(out.refusal(
+                Fault {
+                    reason: Reason::HereDocument,
+                    at: At::First,
+                },
+                place,
+            ));
         }
-        let _ = self.documents.waiting.push(Waiting { dash, delimiter: self.documents.letters });
-        self.give_word(Role::Delim, Command { stage: self.command.stage, awaited: Awaited::Nothing }, place, out)
+        let _ = self.documents.waiting.push(Waiting {
+            dash,
+            delimiter: self.documents.letters,
+        });
+        self.give_word(
+            Role::Delim,
+            Command {
+                stage: self.command.stage,
+                awaited: Awaited::Nothing,
+            },
+            place,
+            out,
+        )
     }
 
     pub fn use_here(&self) -> Option<Use>
         ensures { λ r. ⌜ r ≡ use-here (stateOf (now (self .entry))) ⌝ }
     {
-        use_of(self.command.stage, self.word.is_reserved(), is_assigned(self.word.mode))
+        use_of(
+            self.command.stage,
+            self.word.is_reserved(),
+            is_assigned(self.word.mode),
+        )
     }
 
     // A word in command text, by whether it is an IO number: one may not stand where a redirection awaits its word.
@@ -162,20 +216,53 @@ impl State {
                     return self.give_word(Role::Number, self.command, place, out);
                 }
                 match self.use_here() {
-                    Some(u) => self.give_word(u.role, Command { stage: u.stage, awaited: Awaited::Nothing }, place, out),
-                    None => Err(out.refusal(Fault { reason: Reason::OutOfPlace, at: At::First }, place)),
+                    Some(u) => self.give_word(
+                        u.role,
+                        Command {
+                            stage: u.stage,
+                            awaited: Awaited::Nothing,
+                        },
+                        place,
+                        out,
+                    ),
+                    None => Err(out.refusal(
+                        Fault {
+                            reason: Reason::OutOfPlace,
+                            at: At::First,
+                        },
+                        place,
+                    )),
                 }
             }
-            _ if number => Err(out.refusal(Fault { reason: Reason::OutOfPlace, at: At::First }, place)),
+            _ if number => Err(out.refusal(
+                Fault {
+                    reason: Reason::OutOfPlace,
+                    at: At::First,
+                },
+                place,
+            )),
             Awaited::Target => {
-                self.give_word(Role::Target, Command { stage: self.command.stage, awaited: Awaited::Nothing }, place, out)
+                self.give_word(
+                    Role::Target,
+                    Command {
+                        stage: self.command.stage,
+                        awaited: Awaited::Nothing,
+                    },
+                    place,
+                    out,
+                )
             }
             Awaited::Delimiter(dash) => self.delimited(dash, place, out),
         }
     }
 
     // The word ends, if there is one; directly before `<` or `>` a plain word of digits is an IO number.
-    pub fn word_ends<W: Sink>(&mut self, redirected: bool, place: u16, out: &mut W) -> Result<(), Refusal>
+    pub fn word_ends<W: Sink>(
+        &mut self,
+        redirected: bool,
+        place: u16,
+        out: &mut W,
+    ) -> Result<(), Refusal>
         ensures { λ r. ⌜ result r (held (stateOf (now (self .exit))) (W·Sink .sheet (now (out .exit)))) ≡ lays (W·Sink .written) (W·Sink .placed) place (word-ends redirected (stateOf (now (self .entry)))) (W·Sink .sheet (now (out .entry))) ⌝ }
     {
         match self.word.mode {

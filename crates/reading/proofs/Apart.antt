@@ -27,8 +27,8 @@ add-nil [] = refl
 add-nil (x ∷ l) = ap (λ m. x ∷ m) (add-nil l)
 
 module _ (C A B D F G E P : Type 0) (T : Placing A B F E P) (al : Aliases) (R : Reader C A F) (says : A → List D) (blames : F → G) (f : B → D) (g : E → G)
-         (gives-says : (a : A) (p : ℕ) (r : P) → each f (T .gives a p r) ≡ says a)
-         (refuses : (x : F) (p : ℕ) (r : P) → g (T .refusal x p r) ≡ blames x) where
+    (gives-says : (a : A) (p : ℕ) (r : P) → each f (T .gives a p r) ≡ says a)
+    (refuses : (x : F) (p : ℕ) (r : P) → g (T .refusal x p r) ≡ blames x) where
   strip-acts : (bs : List B) (xs : List (Event B)) → strip-events f (acts bs ++ xs) ≡ acts (each f bs) ++ strip-events f xs
   strip-acts [] xs = refl
   strip-acts (b ∷ bs) xs = ap (λ l. act (f b) ∷ l) (strip-acts bs xs)

@@ -138,15 +138,17 @@ module _ (al : Aliases) (form text : ℕ → List ℕ) (t : List ℕ) (lawful : 
       ∙ shell-fills al form text lawful 64 (signs (template t 0)) [] fresh accepted
 
   pub both : Accepted (scriptReading al made) × (listed-items (listed (scriptReading al made)) ≡ fill-items text (listed-items (listed (templateReading al t))))
-  both =
-      ( well-stripped (scriptReading al made .ending) (subst (λ r. Accepted r) (sym (apart al (script made 0) (length made))) (subst (λ r. Accepted r) (sym whole) accepted))
-      , items-listed al (script made 0) (length made) ∙ ap itemsOf whole ∙ items-filled text (readingOf al 64 (template t 0) .events) [] ∙ ap (fill-items text) (sym (items-listed al (template t 0) (length t))) )
+  both = (
+    well-stripped (scriptReading al made .ending) (subst (λ r. Accepted r) (sym (apart al (script made 0) (length made))) (subst (λ r. Accepted r) (sym whole) accepted)),
+    items-listed al (script made 0) (length made) ∙ ap itemsOf whole ∙ items-filled text (readingOf al 64 (template t 0) .events) [] ∙ ap (fill-items text) (sym (items-listed al (template t 0) (length t))),
+  )
 
 pub script-reads-as-template-filled : Script-reads-as-template-filled
 script-reads-as-template-filled al form text t lawful ok = both al form text t lawful ok
 
 pub scripts-differ-in-holes-alone : Scripts-differ-in-holes-alone
 scripts-differ-in-holes-alone al al′ form form′ text text′ t same law law′ ok =
-    let e : al ≡ al′ = fun-ext same in
-    ( both al form text t law ok .1
-    , ap (λ a. listed-items (listed (scriptReading a (rendered form′ (template t 0))))) (sym e) ∙ both al form′ text′ t law′ ok .1 )
+    let e : al ≡ al′ = fun-ext same in (
+      both al form text t law ok .1,
+      ap (λ a. listed-items (listed (scriptReading a (rendered form′ (template t 0))))) (sym e) ∙ both al form′ text′ t law′ ok .1,
+    )

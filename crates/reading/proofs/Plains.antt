@@ -32,8 +32,8 @@ opens o (b ∷ bs) = opens (further o b) bs
 kept-more : (k : List ℕ) (b : ℕ) (bs : List ℕ) → length k ≤ 33 → (length (kept k b) ≤ 33) × (take 33 (kept k b ++ bs) ≡ take 33 (k ++ (b ∷ bs)))
 kept-more k b bs h =
     elim (cases-lt (length k) 33) [
-      inl l ↦ rw (lt-ltb (length k) 33 l) (omega (arith, length-push k b), ap (take 33) (append-assoc k (b ∷ []) bs))
-    | inr l ↦ let e : length k ≡ 33 = omega arith in rw (le-ltb (length k) 33 l) (h, take-at k bs 33 e ∙ sym (take-at k (b ∷ bs) 33 e))
+      | inl l ↦ rw (lt-ltb (length k) 33 l) (omega (arith, length-push k b), ap (take 33) (append-assoc k (b ∷ []) bs))
+      | inr l ↦ let e : length k ≡ 33 = omega arith in rw (le-ltb (length k) 33 l) (h, take-at k bs 33 e ∙ sym (take-at k (b ∷ bs) 33 e))
     ]
 
 -- a plain word after more bytes
@@ -50,8 +50,8 @@ digits-from Other [] = refl
 digits-from Digits (b ∷ bs) = elim (cases-bool (isDigit b)) [ inl e ↦ rw e (digits-from Digits bs) | inr e ↦ rw e (digits-from Other bs) ]
 digits-from Name (b ∷ bs) =
     elim (cases-bool (isNameByte b)) [
-      inl e ↦ rw e (digits-from Name bs)
-    | inr e ↦ elim (cases-bool (eqb b equals)) [ inl f ↦ rw (e, f) (digits-from Assign bs) | inr f ↦ rw (e, f) (digits-from Other bs) ]
+      | inl e ↦ rw e (digits-from Name bs)
+      | inr e ↦ elim (cases-bool (eqb b equals)) [ inl f ↦ rw (e, f) (digits-from Assign bs) | inr f ↦ rw (e, f) (digits-from Other bs) ]
     ]
 digits-from Assign (b ∷ bs) = digits-from Assign bs
 digits-from Other (b ∷ bs) = digits-from Other bs
@@ -59,22 +59,23 @@ digits-from Other (b ∷ bs) = digits-from Other bs
 digits : (b : ℕ) (bs : List ℕ) → isNumber (opens (opened b) bs) ≡ allDigits (b ∷ bs)
 digits b bs =
     elim (cases-bool (isDigit b)) [
-      inl e ↦ rw e (digits-from Digits bs)
-    | inr e ↦ elim (cases-bool (isNameStart b)) [ inl f ↦ rw (e, f) (digits-from Name bs) | inr f ↦ rw (e, f) (digits-from Other bs) ]
+      | inl e ↦ rw e (digits-from Digits bs)
+      | inr e ↦ elim (cases-bool (isNameStart b)) [ inl f ↦ rw (e, f) (digits-from Name bs) | inr f ↦ rw (e, f) (digits-from Other bs) ]
     ]
 
 -- a name and `=`
 assign-from : (bs : List ℕ) → (isAssign (opens Digits bs) ≡ false) × (isAssign (opens Name bs) ≡ name-goes-on bs) × (isAssign (opens Assign bs) ≡ true) × (isAssign (opens Other bs) ≡ false)
 assign-from [] = (refl, refl, refl, refl)
 assign-from (b ∷ bs) =
-    let h = assign-from bs in
-    ( elim (cases-bool (isDigit b)) [ inl e ↦ rw e (h .0) | inr e ↦ rw e (h .3) ]
-    , elim (cases-bool (isNameByte b)) [
-        inl e ↦ rw e (h .1)
-      | inr e ↦ elim (cases-bool (eqb b equals)) [ inl f ↦ rw (e, f) (h .2) | inr f ↦ rw (e, f) (h .3) ]
-      ]
-    , h .2
-    , h .3 )
+    let h = assign-from bs in (
+      elim (cases-bool (isDigit b)) [ inl e ↦ rw e (h .0) | inr e ↦ rw e (h .3) ],
+      elim (cases-bool (isNameByte b)) [
+        | inl e ↦ rw e (h .1)
+        | inr e ↦ elim (cases-bool (eqb b equals)) [ inl f ↦ rw (e, f) (h .2) | inr f ↦ rw (e, f) (h .3) ]
+      ],
+      h .2,
+      h .3,
+    )
 
 no-digit : (b : ℕ) → isDigit b ≡ true → isNameStart b ≡ false
 no-digit b e =
@@ -85,8 +86,8 @@ assign : (b : ℕ) (bs : List ℕ) → isAssign (opens (opened b) bs) ≡ assign
 assign b bs =
     let h = assign-from bs in
     elim (cases-bool (isDigit b)) [
-      inl e ↦ rw (e, no-digit b e) (h .0)
-    | inr e ↦ elim (cases-bool (isNameStart b)) [ inl f ↦ rw (e, f) (h .1) | inr f ↦ rw (e, f) (h .3) ]
+      | inl e ↦ rw (e, no-digit b e) (h .0)
+      | inr e ↦ elim (cases-bool (isNameStart b)) [ inl f ↦ rw (e, f) (h .1) | inr f ↦ rw (e, f) (h .3) ]
     ]
 
 -- a word that is cut is no shorter word
@@ -114,5 +115,5 @@ kept-bytes-tell-the-word b bs =
       is-reserved = ap reserved e ∙ one-of-cut 33 (b ∷ bs) reservedWords refl;
       is-number = ap (λ (w : Word). numeric (w .mode)) e ∙ digits b bs;
       is-assign = ap (λ (w : Word). assigned (w .mode)) e ∙ assign b bs;
-      has-name = λ v h. ap (λ (w : Word). sameBytes (w .kept) v) e ∙ same-cut 33 (b ∷ bs) v (omega arith)
+      has-name = λ v h. ap (λ (w : Word). sameBytes (w .kept) v) e ∙ same-cut 33 (b ∷ bs) v (omega arith);
     }

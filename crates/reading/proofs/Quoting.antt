@@ -240,7 +240,7 @@ shell-quotes = record {
   no-name-at-quote = λ c. refl;
   no-name-at-backslash = λ c. refl;
   no-name-in-single = λ c b. either-way (endsWord (classOf b)) None;
-  no-name-in-escape = λ c b. either-way (endsWord (classOf b)) None
+  no-name-in-escape = λ c b. either-way (endsWord (classOf b)) None;
 }
 
 pub form-is-one-words-letters : Form-is-one-words-letters

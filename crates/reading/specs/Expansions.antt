@@ -46,7 +46,8 @@ entered i = record {
   word = gap;
   frames = frame.Substitution (record { stage = i .command .stage; assign = assigned (i .word .mode); target = isTarget (i .command .awaited); waiting = i .documents .outside }) ∷ i .frames;
   command = command Start awaited.Nothing;
-  documents = record { letters = i .documents .letters; waiting = i .documents .waiting; outside = length (i .documents .waiting) } }
+  documents = record { letters = i .documents .letters; waiting = i .documents .waiting; outside = length (i .documents .waiting) };
+}
 
 -- `$(`: the word's letters so far are given, and a substitution opens
 abbrev pub opens : State → Step

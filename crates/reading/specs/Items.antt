@@ -36,7 +36,8 @@ shell = record {
   name = λ c. name false c;
   without-word = without-word;
   forget = does.Forget ∷ [];
-  too-many = fault TooManyReplacements at.First }
+  too-many = fault TooManyReplacements at.First;
+}
 
 -- what an act writes: a letter, an item of a kind at a depth, or that the letters since the last item are a replaced word's
 pub data Written : Type 0 where

@@ -125,10 +125,10 @@ pub record Listed : Type 0 where
 abbrev pub listed-from : List ItemLetter → List (Event Entry) → List Listed
 listed-from ls [] = []
 listed-from ls (act e ∷ xs) = elim (e .what) as (λ _. List Listed) [
-      letter l ↦ listed-from (ls ++ (known l ∷ [])) xs
-    | item k n ↦ record { item = record { kind = k; depth = n; letters = ls }; place = e .place } ∷ listed-from [] xs
-    | forget ↦ listed-from [] xs
-    ]
+  | letter l ↦ listed-from (ls ++ (known l ∷ [])) xs
+  | item k n ↦ record { item = record { kind = k; depth = n; letters = ls }; place = e .place } ∷ listed-from [] xs
+  | forget ↦ listed-from [] xs
+]
 listed-from ls (hole d ∷ xs) = listed-from (ls ++ (filled-by d ∷ [])) xs
 
 abbrev pub listed : Reading Entry Refusal → List Listed

@@ -46,9 +46,9 @@ byte-escaped b i = cond (eqb b newline) (done i) (settle i then λ j. escaped b 
 
 abbrev pub byte : ℕ → Control → Move
 byte b c = elim (c .escape) as (λ _. Move) [
-      true ↦ plainly (byte-escaped b (c .at))
-    | false ↦ byte-in b (c .at) (regionOf (c .at .word .mode) (topOf (c .at .frames)))
-    ]
+  | true ↦ plainly (byte-escaped b (c .at))
+  | false ↦ byte-in b (c .at) (regionOf (c .at .word .mode) (topOf (c .at .frames)))
+]
 
 -- the end of an alias's value ends the word
 abbrev pub alias-end : Control → Move
@@ -72,12 +72,12 @@ finish i = cond (unfinished i) (refuse reason.Unfinished at.Here) (cond (waits (
 -- the last line of a body may lack its newline
 abbrev pub last-line : State → Step
 last-line i = elim (i .word .mode) as (λ _. Step) [
-      mode.Gap ↦ done i
-    | mode.Comment ↦ done i
-    | mode.Plain o ↦ done i
-    | mode.Mixed y ↦ done i
-    | mode.Body n l ↦ cond (line-is (document n i) l) (body-ends n i) (done i)
-    ]
+  | mode.Gap ↦ done i
+  | mode.Comment ↦ done i
+  | mode.Plain o ↦ done i
+  | mode.Mixed y ↦ done i
+  | mode.Body n l ↦ cond (line-is (document n i) l) (body-ends n i) (done i)
+]
 
 abbrev pub end-in : State → Top → Step
 end-in i top.Command = word-ends false i then λ j. last-line j then λ k. finish k

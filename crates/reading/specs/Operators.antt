@@ -45,7 +45,8 @@ left o i = record {
   word = in-mode (mode.Mixed (o .assign));
   frames = around (i .frames);
   command = command (o .stage) (cond (o .target) awaited.Target awaited.Nothing);
-  documents = record { letters = i .documents .letters; waiting = i .documents .waiting; outside = o .waiting } }
+  documents = record { letters = i .documents .letters; waiting = i .documents .waiting; outside = o .waiting };
+}
 
 abbrev pub leaves : Outer → State → Step
 leaves u i = cond (waits (i .documents)) (refuse reason.HereDocument at.Operator) (does (Item kind.Close (depth i) at.Operator) (done (left u i)))
@@ -77,10 +78,10 @@ placed o (Some g) i = led o g (sortOf o) i
 -- the operator is given; where a redirection awaits its word, only a word may stand
 abbrev pub give : Operator → State → Step
 give o i = elim (i .command .awaited) as (λ _. Step) [
-      awaited.Nothing ↦ placed o (leadsTo (sortOf o) (i .command .stage)) i
-    | awaited.Target ↦ refuse reason.OutOfPlace at.Operator
-    | awaited.Delimiter d ↦ refuse reason.OutOfPlace at.Operator
-    ]
+  | awaited.Nothing ↦ placed o (leadsTo (sortOf o) (i .command .stage)) i
+  | awaited.Target ↦ refuse reason.OutOfPlace at.Operator
+  | awaited.Delimiter d ↦ refuse reason.OutOfPlace at.Operator
+]
 
 -- the operator is begun, or given at once if no byte lengthens it
 abbrev pub begun-or-given : Operator → State → Step

@@ -14,7 +14,6 @@ use Rattle.reading.specs.declared.act.Fault.{Fault}
 use Rattle.reading.specs.States.{State, Control}
 
 infixl 20 _then_
-
 -- it is done, in a state; it is refused; it does an act and goes on; one step, and then another from the state that the first leaves
 pub data Step : Type 0 where
   done : State → Step

@@ -47,12 +47,12 @@ dollar-here i = does DollarHere (done (set-begun begun.Dollar i))
 -- `#` begins a comment where no word is begun
 abbrev pub comment-or-letter : ℕ → State → Step
 comment-or-letter b i = elim (i .word .mode) as (λ _. Step) [
-      mode.Gap ↦ done (set-word (in-mode mode.Comment) i)
-    | mode.Comment ↦ done i
-    | mode.Plain o ↦ bare b WordHere i
-    | mode.Mixed y ↦ bare b WordHere i
-    | mode.Body n l ↦ done i
-    ]
+  | mode.Gap ↦ done (set-word (in-mode mode.Comment) i)
+  | mode.Comment ↦ done i
+  | mode.Plain o ↦ bare b WordHere i
+  | mode.Mixed y ↦ bare b WordHere i
+  | mode.Body n l ↦ done i
+]
 
 -- where nothing is begun; a backslash was seen to before
 abbrev pub in-command : Class → ℕ → State → Step

@@ -30,7 +30,8 @@ telling f g R = record {
   name = R .name;
   without-word = R .without-word;
   forget = told f (R .forget);
-  too-many = g (R .too-many) }
+  too-many = g (R .too-many);
+}
 
 abbrev pub reason-of : Fault → Reason
 reason-of f = f .reason

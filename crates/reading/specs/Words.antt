@@ -43,12 +43,12 @@ enter i = record { begun = begun.Nothing; word = in-mode (mode.Mixed (assigned (
 -- a bare byte more
 abbrev pub longer : ℕ → Word → Word
 longer b w = elim (w .mode) as (λ _. Word) [
-      mode.Gap ↦ record { mode = mode.Plain (opened b); kept = b ∷ [] }
-    | mode.Comment ↦ w
-    | mode.Plain o ↦ record { mode = mode.Plain (further o b); kept = kept (w .kept) b }
-    | mode.Mixed y ↦ w
-    | mode.Body n l ↦ w
-    ]
+  | mode.Gap ↦ record { mode = mode.Plain (opened b); kept = b ∷ [] }
+  | mode.Comment ↦ w
+  | mode.Plain o ↦ record { mode = mode.Plain (further o b); kept = kept (w .kept) b }
+  | mode.Mixed y ↦ w
+  | mode.Body n l ↦ w
+]
 
 -- of an awaited delimiter the letters are kept, one more than it may have
 abbrev pub with-letter : Awaited → ℕ → List ℕ → List ℕ
@@ -96,17 +96,17 @@ use-here i = useOf (i .command .stage) (reserved (i .word)) (assigned (i .word .
 -- a word in command text, by whether it is an IO number: one may not stand where a redirection awaits its word
 abbrev pub used : Bool → State → Step
 used number i = elim (i .command .awaited) as (λ _. Step) [
-      awaited.Nothing ↦ cond number (given-as role.Number (i .command) i) (by-use (use-here i) i)
-    | awaited.Target ↦ cond number (refuse reason.OutOfPlace at.First) (given-as role.Target (command (i .command .stage) awaited.Nothing) i)
-    | awaited.Delimiter dash ↦ cond number (refuse reason.OutOfPlace at.First) (delimited dash i)
-    ]
+  | awaited.Nothing ↦ cond number (given-as role.Number (i .command) i) (by-use (use-here i) i)
+  | awaited.Target ↦ cond number (refuse reason.OutOfPlace at.First) (given-as role.Target (command (i .command .stage) awaited.Nothing) i)
+  | awaited.Delimiter dash ↦ cond number (refuse reason.OutOfPlace at.First) (delimited dash i)
+]
 
 -- the word ends, if there is one; directly before `<` or `>` a plain word of digits is an IO number
 abbrev pub word-ends : Bool → State → Step
 word-ends redirected i = elim (i .word .mode) as (λ _. Step) [
-      mode.Gap ↦ done i
-    | mode.Comment ↦ done (set-word gap i)
-    | mode.Plain o ↦ used (redirected && isNumber o) i
-    | mode.Mixed y ↦ used false i
-    | mode.Body n l ↦ done i
-    ]
+  | mode.Gap ↦ done i
+  | mode.Comment ↦ done (set-word gap i)
+  | mode.Plain o ↦ used (redirected && isNumber o) i
+  | mode.Mixed y ↦ used false i
+  | mode.Body n l ↦ done i
+]

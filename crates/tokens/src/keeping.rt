@@ -12,7 +12,10 @@ impl Kept {
     pub fn new() -> Self
         ensures { λ r. ⌜ keptBytes r ≡ [] ⌝ }
     {
-        Kept { bytes: [0; 33], len: 0 }
+        Kept {
+            bytes: [0; 33],
+            len: 0,
+        }
     }
 
     // One byte more, while there is room.

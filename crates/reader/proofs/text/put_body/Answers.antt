@@ -11,9 +11,10 @@ returns-in-Break-put g c i =
     search needs
 
 pub loop-k-again : need.loop-k-again
-loop-k-again g c =
-    ( omega arith
-    , λ i. put-on (g .W·Sink .written) (g .W·Sink .placed) (c .args .place) (c .args .letters .now) (c .loop-k .k) (g .W·Sink .sheet (c .loop-k .out)) i (c .loop-k-test .taken) (g .W·Sink .sheet (c .put .last .self)) (c .in-Continue-put .ensures tt) ∙ c .loop-k .inv .1 i )
+loop-k-again g c = (
+  omega arith,
+  λ i. put-on (g .W·Sink .written) (g .W·Sink .placed) (c .args .place) (c .args .letters .now) (c .loop-k .k) (g .W·Sink .sheet (c .loop-k .out)) i (c .loop-k-test .taken) (g .W·Sink .sheet (c .put .last .self)) (c .in-Continue-put .ensures tt) ∙ c .loop-k .inv .1 i,
+)
 
 pub returns : need.returns
 returns g c i = all-put (g .W·Sink .written) (g .W·Sink .placed) (c .args .place) (c .args .letters .now) (c .loop-k .k) (g .W·Sink .sheet (c .loop-k .out)) i (c .loop-k-test .left) ∙ c .loop-k .inv .1 i

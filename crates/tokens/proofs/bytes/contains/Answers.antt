@@ -17,9 +17,10 @@ returns-then-b-text c =
 pub loop-i-again : need.loop-i-again
 loop-i-again c =
     let t = c .args .text .now in
-    let i = c .loop-i .i in
-    ( omega arith
-    , sym (ap (among (c .args .b)) (drop-more t i 0 (c .loop-i-test .taken)) ∙ ap (λ (y : Bool). y || among (c .args .b) (drop (i + 1) t)) (ne-eqb _ _ (c .if-b-text .left))) ∙ c .loop-i .inv .1 )
+    let i = c .loop-i .i in (
+      omega arith,
+      sym (ap (among (c .args .b)) (drop-more t i 0 (c .loop-i-test .taken)) ∙ ap (λ (y : Bool). y || among (c .args .b) (drop (i + 1) t)) (ne-eqb _ _ (c .if-b-text .left))) ∙ c .loop-i .inv .1,
+    )
 
 pub returns : need.returns
 returns c = sym (ap (among (c .args .b)) (drop-all (c .loop-i .i) (c .args .text .now) (c .loop-i-test .left))) ∙ c .loop-i .inv .1
