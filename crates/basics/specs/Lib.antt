@@ -3,3 +3,4 @@ pub mod Pages
 pub mod Refusals
 pub mod Searches
 pub mod Checks
+pub mod Stacks

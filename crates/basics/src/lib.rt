@@ -3,3 +3,4 @@ pub mod bytes;
 pub mod page;
 pub mod refusal;
 pub mod search;
+pub mod stack;

@@ -1,0 +1,2 @@
+pub mod ByLines
+pub mod Orders

@@ -1,0 +1,7 @@
+pub mod Stages
+pub mod Roles
+pub mod Kinds
+pub mod Bodies
+pub mod Redirections
+pub mod Lines
+pub mod Queues

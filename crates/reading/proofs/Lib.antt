@@ -1,0 +1,6 @@
+pub mod Runs
+pub mod Quoting
+pub mod Apart
+pub mod Filling
+pub mod Laying
+pub mod Plains

@@ -1,0 +1,7 @@
+pub mod Bytes
+pub mod Operators
+pub mod Letters
+pub mod Openings
+pub mod Expansions
+pub mod Table
+pub mod Keeping
