@@ -61,6 +61,87 @@ pub enum Letter {
     Hole(u8),
 }
 
+impl Role {
+    pub fn number(self) -> u8 {
+        match self {
+            Role::Name => 1,
+            Role::Arg => 2,
+            Role::Assign => 3,
+            Role::Target => 4,
+            Role::Delim => 5,
+            Role::Number => 6,
+        }
+    }
+}
+
+impl Operator {
+    pub fn number(self) -> u8 {
+        match self {
+            Operator::Newline => 1,
+            Operator::And => 2,
+            Operator::AndIf => 3,
+            Operator::Pipe => 4,
+            Operator::OrIf => 5,
+            Operator::Semicolon => 6,
+            Operator::DoubleSemicolon => 7,
+            Operator::Open => 8,
+            Operator::Close => 9,
+            Operator::Less => 10,
+            Operator::Great => 11,
+            Operator::HereDocument => 12,
+            Operator::Append => 13,
+            Operator::LessAnd => 14,
+            Operator::GreatAnd => 15,
+            Operator::ReadWrite => 16,
+            Operator::HereDocumentTabs => 17,
+            Operator::Clobber => 18,
+        }
+    }
+}
+
+impl Kind {
+    pub fn number(self) -> u8 {
+        match self {
+            Kind::Part => 1,
+            Kind::Open => 2,
+            Kind::Close => 3,
+            Kind::Word(_) => 4,
+            Kind::Operator(_) => 5,
+            Kind::Body => 6,
+        }
+    }
+
+    // The number of the role or operator, else 0.
+    pub fn code(self) -> u8 {
+        match self {
+            Kind::Word(role) => role.number(),
+            Kind::Operator(operator) => operator.number(),
+            Kind::Part | Kind::Open | Kind::Close | Kind::Body => 0,
+        }
+    }
+}
+
+impl Letter {
+    // As a sheet has it: the mark's number times 256, and the byte. A script has no holes.
+    pub fn number(self) -> u16 {
+        match self {
+            Letter::Bare(b) => u16::from(b),
+            Letter::Quoted(b) => 256 + u16::from(b),
+            Letter::Expansion(b) => 512 + u16::from(b),
+            Letter::Body(b) => 768 + u16::from(b),
+            Letter::Hole(digit) => 1024 + u16::from(digit),
+        }
+    }
+
+    // The hole's bit in a mask of ten, or 0.
+    fn hole_bit(self) -> u16 {
+        match self {
+            Letter::Hole(digit) if digit < 10 => 1 << u16::from(digit),
+            _ => 0,
+        }
+    }
+}
+
 #[derive(Drop)]
 pub struct Item {
     pub kind: Kind,
@@ -89,5 +170,16 @@ impl Reading {
             room = room.saturating_sub(item.letters.len());
         }
         self.refusal
+    }
+
+    // The holes among the letters, as a mask: hole 0 is the lowest bit.
+    pub fn holes(&self) -> u16 {
+        let mut mask = 0;
+        for item in self.items.iter() {
+            for letter in item.letters.iter() {
+                mask |= letter.hole_bit();
+            }
+        }
+        mask
     }
 }

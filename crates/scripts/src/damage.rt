@@ -29,6 +29,20 @@ impl Scripts {
         Ok(())
     }
 
+    // Puts a text to fill a hole with in `out`: a few bytes, most of them telling ones, and none of them 0.
+    pub fn text(&mut self, out: &mut Vec<u8>) -> Result<(), AllocError> {
+        out.clear();
+        for _ in 0..self.random.below(9) {
+            let b = if self.random.once_in(4) {
+                1 + self.random.below(255) as u8
+            } else {
+                self.telling()
+            };
+            out.push(b)?;
+        }
+        Ok(())
+    }
+
     fn telling(&mut self) -> u8 {
         let n = self.random.below(TELLING.len());
         TELLING.as_bytes().get(n).copied().unwrap_or(b'a')

@@ -21,7 +21,12 @@ pub struct Scripts {
 
 impl Scripts {
     pub fn new(heap: Global, seed: u64) -> Scripts {
-        Scripts { heap, random: Random::new(seed), holes: false, pending: Vec::new(heap) }
+        Scripts {
+            heap,
+            random: Random::new(seed),
+            holes: false,
+            pending: Vec::new(heap),
+        }
     }
 
     // Puts a script in `out`.
