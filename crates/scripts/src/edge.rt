@@ -51,10 +51,12 @@ impl Scripts {
     // Puts a script at one of the edges in `out`.
     pub fn edge(&mut self, out: &mut Vec<u8>) -> Result<(), AllocError> {
         out.clear();
-        match self.random.below(8) {
+        match self.random.below(12) {
             0 => self.many_pending(out),
             1 => self.long_delimiter(out),
             2 => self.many_replaced(out),
+            3 => self.long(out),
+            4 => self.zero(out),
             _ => self.deep(out),
         }
     }
@@ -89,6 +91,20 @@ impl Scripts {
         repeat(out, "d", long)?;
         put(out, "\nx\n")?;
         repeat(out, "d", long)
+    }
+
+    // About as long as a template or a script may be.
+    fn long(&mut self, out: &mut Vec<u8>) -> Result<(), AllocError> {
+        let most = if self.random.once_in(2) { 1022 } else { 4094 };
+        let times = most + self.random.below(5);
+        let bytes = if self.random.once_in(2) { "a" } else { "'" };
+        repeat(out, bytes, times)
+    }
+
+    fn zero(&mut self, out: &mut Vec<u8>) -> Result<(), AllocError> {
+        let times = self.random.below(9);
+        repeat(out, "a ", times)?;
+        put(out, "\0'\0")
     }
 
     fn many_replaced(&mut self, out: &mut Vec<u8>) -> Result<(), AllocError> {

@@ -105,8 +105,7 @@ impl Scripts {
             put(out, ")")?;
         } else {
             self.head(out, left)?;
-            let n = self.random.below(words::COMMAND_NAMES);
-            put(out, words::command_name(n))?;
+            self.command_name(out)?;
             for _ in 0..self.random.below(4) {
                 self.blank(out)?;
                 self.word(out, left)?;
@@ -116,6 +115,16 @@ impl Scripts {
             self.redirection(out, left)?;
         }
         Ok(())
+    }
+
+    // A name, or once in a while a reserved word.
+    fn command_name(&mut self, out: &mut Vec<u8>) -> Result<(), AllocError> {
+        if self.random.once_in(40) {
+            let n = self.random.below(words::RESERVED);
+            return put(out, words::reserved(n));
+        }
+        let n = self.random.below(words::COMMAND_NAMES);
+        put(out, words::command_name(n))
     }
 
     // Assignments and redirections before a name.
@@ -180,7 +189,7 @@ impl Scripts {
             0 => self.single_quotes(out),
             1 | 2 => self.double_quotes(out, left),
             3 => put(out, "\\;"),
-            4 => put(out, "\\\n"),
+            4 => put(out, "\\\nx"),
             5 | 6 => self.expansion(out),
             7 => self.substitution(out, left),
             _ => {

@@ -1,12 +1,15 @@
 // Texts to try readers on: every short string over a few bytes, and pseudo-random scripts and templates, whole and damaged.
 // The same seed always gives the same texts.
+mod alias;
 mod damage;
 mod edge;
+mod examples;
 mod grammar;
 mod random;
 mod strings;
 mod words;
 
+pub use examples::example;
 pub use grammar::Scripts;
 pub use random::Random;
 pub use strings::Strings;

@@ -5,7 +5,7 @@ pub fn put(out: &mut Vec<u8>, text: &str) -> Result<(), AllocError> {
     out.extend_from_slice(text.as_bytes())
 }
 
-// Command names; some are reserved, and some stand for aliases in the runs.
+// Command names, which may be the names of aliases too.
 pub fn command_name(n: usize) -> &'static str {
     match n {
         0 => "a",
@@ -15,15 +15,57 @@ pub fn command_name(n: usize) -> &'static str {
         4 => "i",
         5 => "2",
         6 => "cat",
-        7 => "echo",
-        8 => "if",
-        9 => "!",
-        10 => "ab",
+        7 => "ab",
         _ => "c",
     }
 }
 
-pub const COMMAND_NAMES: usize = 12;
+pub const COMMAND_NAMES: usize = 9;
+
+// Words that no command may begin with.
+pub fn reserved(n: usize) -> &'static str {
+    match n {
+        0 => "!",
+        1 => "{",
+        2 => "}",
+        3 => "if",
+        4 => "then",
+        5 => "elif",
+        6 => "else",
+        7 => "fi",
+        8 => "while",
+        9 => "until",
+        10 => "do",
+        11 => "done",
+        12 => "for",
+        13 => "case",
+        _ => "esac",
+    }
+}
+
+pub const RESERVED: usize = 15;
+
+// Words of an alias's value.
+pub fn alias_word(n: usize) -> &'static str {
+    match n {
+        0 => "a",
+        1 => "b",
+        2 => "ls",
+        3 => "-l",
+        4 => "x=1",
+        5 => "e",
+        6 => "2",
+        7 => "@{0}",
+        8 => "c",
+        9 => "_y=",
+        10 => "ab",
+        11 => "cat",
+        12 => "i",
+        _ => "if",
+    }
+}
+
+pub const ALIAS_WORDS: usize = 14;
 
 pub fn plain(n: usize) -> &'static str {
     match n {
