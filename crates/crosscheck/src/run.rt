@@ -1,4 +1,6 @@
-// The runs: each makes texts of one sort, and reads them.
+// One text at a time: what the second reader makes of it, and whether the product's reader makes the same.
+use super::aliases::entwined;
+use super::aliases::some;
 use super::fill::Form;
 use super::fill::reads_alike;
 use super::fill::script_of;
@@ -8,7 +10,6 @@ use descent::Reading;
 use descent::read_script;
 use descent::read_template;
 use scripts::Scripts;
-use scripts::Strings;
 use std::alloc::AllocError;
 use std::alloc::Global;
 
@@ -19,72 +20,81 @@ const TEXTS: usize = 10;
 
 #[derive(Drop)]
 pub struct Run {
-    heap: Global,
-    scripts: Scripts,
-    none: Vec<Alias>,
+    pub heap: Global,
+    pub scripts: Scripts,
+    // the aliases that texts are read under
     aliases: Vec<Alias>,
     // templates that were filled and read again, and those that did not read as their template does
     pub filled: u64,
     pub unlike: u64,
 }
 
-fn alias(heap: Global, name: &str, value: &str) -> Result<Alias, AllocError> {
-    Ok(Alias {
-        name: Vec::from_slice(heap, name.as_bytes())?,
-        value: Vec::from_slice(heap, value.as_bytes())?,
-    })
-}
-
-// Aliases that stand for one another, for themselves, for assignments, for a reserved word and for a number.
-fn some_aliases(heap: Global) -> Result<Vec<Alias>, AllocError> {
-    let mut all = Vec::new(heap);
-    all.push(alias(heap, "ls", "ls -l ")?)?;
-    all.push(alias(heap, "a", "b")?)?;
-    all.push(alias(heap, "b", " x=1 a")?)?;
-    all.push(alias(heap, "e", "x=1 y=2")?)?;
-    all.push(alias(heap, "i", "if")?)?;
-    all.push(alias(heap, "2", "two 2")?)?;
-    all.push(alias(heap, "!", "@{0} =")?)?;
-    all.push(alias(heap, "1", "e\ta")?)?;
-    Ok(all)
-}
-
 impl Run {
     pub fn new(heap: Global, seed: u64) -> Result<Run, AllocError> {
         let scripts = Scripts::new(heap, seed);
-        let none = Vec::new(heap);
-        let aliases = some_aliases(heap)?;
         Ok(Run {
             heap,
             scripts,
-            none,
-            aliases,
+            aliases: Vec::new(heap),
             filled: 0,
             unlike: 0,
         })
     }
 
-    // Reads one script, under the aliases and under none, with ample room and with some.
-    fn try_script(&mut self, script: &[u8], tally: &mut Tally) -> Result<(), AllocError> {
-        let plain = read_script(self.heap, script, self.none.as_slice())?;
-        self.compare(&plain, tally);
-        let aliased = read_script(self.heap, script, self.aliases.as_slice())?;
-        self.compare(&aliased, tally);
+    // From here on texts are read under no aliases, under the fixed ones, or under others.
+    pub fn without_aliases(&mut self) {
+        self.aliases = Vec::new(self.heap);
+    }
+
+    pub fn under_entwined(&mut self) -> Result<(), AllocError> {
+        self.aliases = entwined(self.heap)?;
         Ok(())
     }
 
-    // One reading; the product's list of the same script is to be called and compared here.
-    fn compare(&mut self, reading: &Reading, tally: &mut Tally) {
-        tally.add(reading, reading.refusal);
-        let records = self.scripts
-            .random
-            .below(reading.items.len().saturating_add(2));
-        let letters = self.scripts.random.below(40);
+    pub fn under_others(&mut self) -> Result<(), AllocError> {
+        self.aliases = some(self.heap, &mut self.scripts)?;
+        Ok(())
+    }
+
+    // Lists a script on a sheet with ample room, and on one that may be too small.
+    pub fn try_script(&mut self, script: &[u8], tally: &mut Tally) -> Result<(), AllocError> {
+        let reading = read_script(self.heap, script, self.aliases.as_slice())?;
+        let records = reading.items.len();
+        let letters = reading.letters();
+        self.list(script, &reading, records, letters, tally);
+        let records = self.scripts.random.below(records.saturating_add(2));
+        let letters = self.scripts.random.below(letters.saturating_add(2));
+        self.list(script, &reading, records, letters, tally);
+        Ok(())
+    }
+
+    // Lists a script on sheets of every size that may matter.
+    pub fn try_rooms(&mut self, script: &[u8], tally: &mut Tally) -> Result<(), AllocError> {
+        let reading = read_script(self.heap, script, self.aliases.as_slice())?;
+        for records in 0..=reading.items.len() {
+            for letters in 0..=reading.letters() {
+                self.list(script, &reading, records, letters, tally);
+            }
+        }
+        Ok(())
+    }
+
+    // One list of `script`, on a sheet with room for so many records and letters, under `self.aliases`.
+    // The product's `list` is called here, and what it answers and puts on the sheet is compared with `reading`.
+    fn list(
+        &mut self,
+        _script: &[u8],
+        reading: &Reading,
+        records: usize,
+        letters: usize,
+        tally: &mut Tally,
+    ) {
         tally.add(reading, reading.refusal_within(records, letters));
     }
 
-    // Reads one template, and where it reads, fills it and reads the scripts.
-    fn try_template(&mut self, template: &[u8], tally: &mut Tally) -> Result<(), AllocError> {
+    // Reads one template, and where it reads, fills it in two ways and reads the scripts.
+    // The product's check of a template is called here, and its answer compared with `reading`.
+    pub fn try_template(&mut self, template: &[u8], tally: &mut Tally) -> Result<(), AllocError> {
         let reading = read_template(self.heap, template, self.aliases.as_slice())?;
         tally.add(&reading, reading.refusal);
         if reading.refusal.is_none() && reading.holes() != 0 {
@@ -121,87 +131,5 @@ impl Run {
             all.push(text)?;
         }
         Ok(all)
-    }
-
-    pub fn strings(&mut self, alphabet: &str, longest: usize) -> Result<Tally, AllocError> {
-        let mut tally = Tally::new(self.heap)?;
-        let mut strings = Strings::new(self.heap, alphabet, longest)?;
-        let mut text = Vec::new(self.heap);
-        for _ in 0..u64::MAX {
-            if !strings.next(&mut text)? {
-                break;
-            }
-            self.try_script(text.as_slice(), &mut tally)?;
-        }
-        Ok(tally)
-    }
-
-    pub fn short_templates(&mut self, alphabet: &str, longest: usize) -> Result<Tally, AllocError> {
-        let mut tally = Tally::new(self.heap)?;
-        let mut strings = Strings::new(self.heap, alphabet, longest)?;
-        let mut text = Vec::new(self.heap);
-        for _ in 0..u64::MAX {
-            if !strings.next(&mut text)? {
-                break;
-            }
-            self.try_template(text.as_slice(), &mut tally)?;
-        }
-        Ok(tally)
-    }
-
-    pub fn scripts(&mut self, count: usize) -> Result<Tally, AllocError> {
-        let mut tally = Tally::new(self.heap)?;
-        let mut text = Vec::new(self.heap);
-        for _ in 0..count {
-            self.scripts.script(&mut text)?;
-            self.try_script(text.as_slice(), &mut tally)?;
-        }
-        Ok(tally)
-    }
-
-    pub fn damaged_scripts(&mut self, count: usize) -> Result<Tally, AllocError> {
-        let mut tally = Tally::new(self.heap)?;
-        let mut text = Vec::new(self.heap);
-        let mut other = Vec::new(self.heap);
-        for _ in 0..count {
-            self.scripts.script(&mut text)?;
-            self.scripts.damage(&mut text)?;
-            self.scripts.splice(&mut other, text.as_slice())?;
-            self.try_script(other.as_slice(), &mut tally)?;
-            std::mem::swap(&mut text, &mut other);
-        }
-        Ok(tally)
-    }
-
-    pub fn edges(&mut self, count: usize) -> Result<Tally, AllocError> {
-        let mut tally = Tally::new(self.heap)?;
-        let mut text = Vec::new(self.heap);
-        for _ in 0..count {
-            self.scripts.edge(&mut text)?;
-            self.try_script(text.as_slice(), &mut tally)?;
-            self.try_template(text.as_slice(), &mut tally)?;
-        }
-        Ok(tally)
-    }
-
-    pub fn templates(&mut self, count: usize) -> Result<Tally, AllocError> {
-        let mut tally = Tally::new(self.heap)?;
-        let mut text = Vec::new(self.heap);
-        for _ in 0..count {
-            self.scripts.template(&mut text)?;
-            self.try_template(text.as_slice(), &mut tally)?;
-        }
-        Ok(tally)
-    }
-
-    pub fn damaged_templates(&mut self, count: usize) -> Result<Tally, AllocError> {
-        let mut tally = Tally::new(self.heap)?;
-        let mut text = Vec::new(self.heap);
-        for _ in 0..count {
-            self.scripts.template(&mut text)?;
-            self.scripts.damage(&mut text)?;
-            self.try_template(text.as_slice(), &mut tally)?;
-        }
-        Ok(tally)
     }
 }

@@ -4,6 +4,7 @@ use basics::refusal::Refusal;
 use descent::Reading;
 use std::alloc::AllocError;
 use std::alloc::Global;
+use std::fmt;
 use std::io;
 
 // Refusals have numbers below this.
@@ -11,10 +12,11 @@ const NUMBERS: usize = 28;
 
 #[derive(Drop)]
 pub struct Tally {
-    pub texts: u64,
-    pub read: u64,
-    pub items: u64,
-    pub letters: u64,
+    readings: u64,
+    faultless: u64,
+    items: u64,
+    letters: u64,
+    // where the readers did not agree
     pub differ: u64,
     // by the refusal's number
     refused: Vec<u64>,
@@ -45,8 +47,8 @@ impl Tally {
     pub fn new(heap: Global) -> Result<Tally, AllocError> {
         let refused = vec![in heap; 0; NUMBERS]?;
         Ok(Tally {
-            texts: 0,
-            read: 0,
+            readings: 0,
+            faultless: 0,
             items: 0,
             letters: 0,
             differ: 0,
@@ -54,16 +56,16 @@ impl Tally {
         })
     }
 
-    // Counts one text: its reading, and the refusal of it in the room that it was given.
+    // Counts one reading, and the refusal of it in the room that it was given.
     pub fn add(&mut self, reading: &Reading, refusal: Option<Refusal>) {
-        self.texts = self.texts.saturating_add(1);
+        self.readings = self.readings.saturating_add(1);
         match refusal {
-            None => self.read = self.read.saturating_add(1),
             Some(refusal) => self.count(refusal.reason, 1),
-        }
-        for item in reading.items.iter() {
-            self.items = self.items.saturating_add(1);
-            self.letters = self.letters.saturating_add(item.letters.len() as u64);
+            None => {
+                self.faultless = self.faultless.saturating_add(1);
+                self.items = self.items.saturating_add(reading.items.len() as u64);
+                self.letters = self.letters.saturating_add(reading.letters() as u64);
+            }
         }
     }
 
@@ -82,8 +84,8 @@ impl Tally {
 
     // Adds another tally's counts.
     pub fn join(&mut self, other: &Tally) {
-        self.texts = self.texts.saturating_add(other.texts);
-        self.read = self.read.saturating_add(other.read);
+        self.readings = self.readings.saturating_add(other.readings);
+        self.faultless = self.faultless.saturating_add(other.faultless);
         self.items = self.items.saturating_add(other.items);
         self.letters = self.letters.saturating_add(other.letters);
         self.differ = self.differ.saturating_add(other.differ);
@@ -98,12 +100,29 @@ impl Tally {
     pub fn show_refusals(&self, rt: &LibcRuntime) -> io::Result<()> {
         for n in 0..REASONS {
             if let Some(reason) = reason(n) {
-                let number = reason.number();
-                let words = reason.words();
-                let count = self.counted(reason);
-                println!(rt, "refused {number} {words}: {count}")?;
+                self.show_refusal(rt, reason)?;
             }
         }
         Ok(())
+    }
+
+    fn show_refusal(&self, rt: &LibcRuntime, reason: Reason) -> io::Result<()> {
+        let number = reason.number();
+        let words = reason.words();
+        let count = self.counted(reason);
+        println!(rt, "refused {number} {words}: {count}")
+    }
+}
+
+pub impl fmt::Display for Tally as TallyDisplay {
+    fn fmt<W: fmt::Write>(&self, f: &mut fmt::Formatter<W>) -> fmt::Result {
+        let readings = self.readings;
+        let faultless = self.faultless;
+        let items = self.items;
+        let letters = self.letters;
+        write!(
+            f,
+            "{readings} readings, {faultless} without fault, with {items} items and {letters} letters"
+        )
     }
 }

@@ -172,6 +172,15 @@ impl Reading {
         self.refusal
     }
 
+    // How many letters its items have.
+    pub fn letters(&self) -> usize {
+        let mut count = 0usize;
+        for item in self.items.iter() {
+            count = count.saturating_add(item.letters.len());
+        }
+        count
+    }
+
     // The holes among the letters, as a mask: hole 0 is the lowest bit.
     pub fn holes(&self) -> u16 {
         let mut mask = 0;
