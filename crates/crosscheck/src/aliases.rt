@@ -17,21 +17,28 @@ fn define(aliases: &mut Vec<Alias>, name: Vec<u8>, value: Vec<u8>) -> Result<(),
     Ok(())
 }
 
-fn bytes(heap: Global, text: &str) -> Result<Vec<u8>, AllocError> {
-    Vec::from_slice(heap, text.as_bytes())
+// Aliases that stand for one another, for themselves, for assignments, for a reserved word and for a number.
+fn entwined_alias(n: usize) -> (&'static str, &'static str) {
+    match n {
+        0 => ("ls", "ls -l "),
+        1 => ("a", "b"),
+        2 => ("b", " x=1 a"),
+        3 => ("e", "x=1 y=2"),
+        4 => ("i", "if"),
+        5 => ("2", "two 2"),
+        6 => ("!", "@{0} ="),
+        _ => ("1", "e\ta"),
+    }
 }
 
-// Aliases that stand for one another, for themselves, for assignments, for a reserved word and for a number.
 pub fn entwined(heap: Global) -> Result<Vec<Alias>, AllocError> {
     let mut all = Vec::new(heap);
-    define(&mut all, bytes(heap, "ls")?, bytes(heap, "ls -l ")?)?;
-    define(&mut all, bytes(heap, "a")?, bytes(heap, "b")?)?;
-    define(&mut all, bytes(heap, "b")?, bytes(heap, " x=1 a")?)?;
-    define(&mut all, bytes(heap, "e")?, bytes(heap, "x=1 y=2")?)?;
-    define(&mut all, bytes(heap, "i")?, bytes(heap, "if")?)?;
-    define(&mut all, bytes(heap, "2")?, bytes(heap, "two 2")?)?;
-    define(&mut all, bytes(heap, "!")?, bytes(heap, "@{0} =")?)?;
-    define(&mut all, bytes(heap, "1")?, bytes(heap, "e\ta")?)?;
+    for n in 0..MOST {
+        let (name, value) = entwined_alias(n);
+        let name = Vec::from_slice(heap, name.as_bytes())?;
+        let value = Vec::from_slice(heap, value.as_bytes())?;
+        define(&mut all, name, value)?;
+    }
     Ok(all)
 }
 

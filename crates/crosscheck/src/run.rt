@@ -30,15 +30,15 @@ pub struct Run {
 }
 
 impl Run {
-    pub fn new(heap: Global, seed: u64) -> Result<Run, AllocError> {
+    pub fn new(heap: Global, seed: u64) -> Run {
         let scripts = Scripts::new(heap, seed);
-        Ok(Run {
+        Run {
             heap,
             scripts,
             aliases: Vec::new(heap),
             filled: 0,
             unlike: 0,
-        })
+        }
     }
 
     // From here on texts are read under no aliases, under the fixed ones, or under others.

@@ -1,8 +1,8 @@
 // Pseudo-random scripts and templates, from a small grammar: lists, pipes, groups, words, quotes, substitutions,
 // redirections and here-documents.
-use super::random::Random;
 use super::words;
 use super::words::put;
+use random::Random;
 use std::alloc::AllocError;
 use std::alloc::Global;
 

@@ -5,11 +5,9 @@ mod damage;
 mod edge;
 mod examples;
 mod grammar;
-mod random;
 mod strings;
 mod words;
 
 pub use examples::example;
 pub use grammar::Scripts;
-pub use random::Random;
 pub use strings::Strings;
