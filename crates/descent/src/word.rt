@@ -91,7 +91,7 @@ impl Word {
         true
     }
 
-    // A word that is refused, or read, as a command and no command.
+    // A word that no command may begin with.
     pub fn is_reserved(&self) -> bool {
         self.spells(b"!")
             || self.spells(b"{")
@@ -101,10 +101,10 @@ impl Word {
             || self.spells(b"elif")
             || self.spells(b"else")
             || self.spells(b"fi")
-            || self.begins_compound()
+            || self.is_of_loops_or_cases()
     }
 
-    fn begins_compound(&self) -> bool {
+    fn is_of_loops_or_cases(&self) -> bool {
         self.spells(b"while")
             || self.spells(b"until")
             || self.spells(b"do")
