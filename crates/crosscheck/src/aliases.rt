@@ -1,5 +1,5 @@
 // Tables of aliases to read under.
-use descent::Alias;
+use descent_lexer::item::Alias;
 use scripts::Scripts;
 use std::alloc::AllocError;
 use std::alloc::Global;

@@ -1,9 +1,9 @@
 // A template's holes filled with texts: its script, with a form of the text in each hole, and its items, with the text itself.
-use descent::Item;
-use descent::Letter;
-use descent::Reading;
-use descent::item::KindPartialEq;
-use descent::item::LetterPartialEq;
+use descent_lexer::item::Item;
+use descent_lexer::item::KindPartialEq;
+use descent_lexer::item::Letter;
+use descent_lexer::item::LetterPartialEq;
+use descent_lexer::item::Reading;
 use std::alloc::AllocError;
 use std::alloc::Global;
 

@@ -1,7 +1,7 @@
 // Counts of what was read.
 use basics::refusal::Reason;
 use basics::refusal::Refusal;
-use descent::Reading;
+use descent_lexer::item::Reading;
 use std::alloc::AllocError;
 use std::alloc::Global;
 use std::fmt;

@@ -2,16 +2,16 @@
 use super::command::Command;
 use super::command::Pending;
 use super::command::Stage;
-use super::fault::Fault;
-use super::fault::FaultFromRefused;
-use super::fault::refused;
-use super::item::Kind;
-use super::item::Letter;
 use super::reader::Reader;
-use super::text::Sign;
 use crate::command::StagePartialEq;
-use crate::text::SignPartialEq;
 use basics::refusal::Reason;
+use descent_lexer::fault::Fault;
+use descent_lexer::fault::FaultFromRefused;
+use descent_lexer::fault::refused;
+use descent_lexer::item::Kind;
+use descent_lexer::item::Letter;
+use descent_lexer::text::Sign;
+use descent_lexer::text::SignPartialEq;
 
 // A line without its newline, and whether it had one.
 #[derive(Drop)]

@@ -1,14 +1,14 @@
 // Reading a whole script or template, with the checks before it.
 use super::command::Command;
 use super::command::Frame;
-use super::fault::Fault;
-use super::fault::refused;
-use super::item::Alias;
-use super::item::Reading;
 use super::reader::Reader;
-use super::text::Text;
 use basics::refusal::Reason;
 use basics::refusal::Refusal;
+use descent_lexer::fault::Fault;
+use descent_lexer::fault::refused;
+use descent_lexer::item::Alias;
+use descent_lexer::item::Reading;
+use descent_lexer::text::Text;
 use std::alloc::AllocError;
 use std::alloc::Global;
 

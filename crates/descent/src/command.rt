@@ -1,8 +1,8 @@
 // How far a command has come.
-use super::fault::Fault;
-use super::fault::refused;
-use super::item::Operator;
 use basics::refusal::Reason;
+use descent_lexer::fault::Fault;
+use descent_lexer::fault::refused;
+use descent_lexer::item::Operator;
 use std::alloc::Global;
 
 #[derive(Clone, Copy, PartialEq, Eq)]

@@ -1,12 +1,12 @@
 // Single quotes and backslashes.
-use super::fault::Fault;
-use super::fault::refused;
-use super::item::Letter;
 use super::reader::MOST_FRAMES;
 use super::reader::Reader;
-use super::text::Sign;
 use super::word::Word;
 use basics::refusal::Reason;
+use descent_lexer::fault::Fault;
+use descent_lexer::fault::refused;
+use descent_lexer::item::Letter;
+use descent_lexer::text::Sign;
 
 impl Reader {
     // Single quotes, from the opening one to the closing one.

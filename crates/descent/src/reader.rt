@@ -1,27 +1,27 @@
 // The reader: commands, words, quotes, expansions and substitutions, each by a function that calls the others.
-use super::bytes::begins_name;
-use super::bytes::begins_operator;
-use super::bytes::is_blank;
-use super::bytes::is_in_name;
-use super::bytes::is_parameter;
 use super::command::Command;
 use super::command::Frame;
 use super::command::Stage;
-use super::fault::Fault;
-use super::fault::FaultFromRefused;
-use super::fault::refused;
-use super::item::Alias;
-use super::item::Item;
-use super::item::Kind;
-use super::item::Letter;
-use super::item::Operator;
-use super::operators::take_operator;
-use super::text::Sign;
-use super::text::Text;
 use super::word::Word;
 use crate::command::FramePartialEq;
-use crate::item::OperatorPartialEq;
 use basics::refusal::Reason;
+use descent_lexer::bytes::begins_name;
+use descent_lexer::bytes::begins_operator;
+use descent_lexer::bytes::is_blank;
+use descent_lexer::bytes::is_in_name;
+use descent_lexer::bytes::is_parameter;
+use descent_lexer::fault::Fault;
+use descent_lexer::fault::FaultFromRefused;
+use descent_lexer::fault::refused;
+use descent_lexer::item::Alias;
+use descent_lexer::item::Item;
+use descent_lexer::item::Kind;
+use descent_lexer::item::Letter;
+use descent_lexer::item::Operator;
+use descent_lexer::item::OperatorPartialEq;
+use descent_lexer::operators::take_operator;
+use descent_lexer::text::Sign;
+use descent_lexer::text::Text;
 use std::alloc::Global;
 
 // At most so many frames stand open at a time.

@@ -1,22 +1,22 @@
 // What a word is, once it has ended: its role, or the alias that stands for it.
-use super::bytes::is_blank;
 use super::command::Awaited;
 use super::command::Command;
 use super::command::Pending;
 use super::command::Stage;
-use super::fault::Fault;
-use super::fault::FaultFromAlloc;
-use super::fault::FaultFromRefused;
-use super::fault::refused;
-use super::item::Alias;
-use super::item::Kind;
-use super::item::Letter;
-use super::item::Role;
 use super::reader::Reader;
 use super::word::Word;
 use crate::command::AwaitedPartialEq;
-use crate::item::RolePartialEq;
 use basics::refusal::Reason;
+use descent_lexer::bytes::is_blank;
+use descent_lexer::fault::Fault;
+use descent_lexer::fault::FaultFromAlloc;
+use descent_lexer::fault::FaultFromRefused;
+use descent_lexer::fault::refused;
+use descent_lexer::item::Alias;
+use descent_lexer::item::Kind;
+use descent_lexer::item::Letter;
+use descent_lexer::item::Role;
+use descent_lexer::item::RolePartialEq;
 use std::alloc::Global;
 
 const MOST_REPLACED: usize = 64;

@@ -1,10 +1,10 @@
 // A word while it is read.
-use super::bytes::begins_name;
-use super::bytes::is_digit;
-use super::bytes::is_in_name;
-use super::fault::Fault;
-use super::fault::FaultFromRefused;
-use super::item::Letter;
+use descent_lexer::bytes::begins_name;
+use descent_lexer::bytes::is_digit;
+use descent_lexer::bytes::is_in_name;
+use descent_lexer::fault::Fault;
+use descent_lexer::fault::FaultFromRefused;
+use descent_lexer::item::Letter;
 use std::alloc::Global;
 
 #[derive(Drop)]
