@@ -1,4 +1,9 @@
 // What a reading gives: items in order, and the refusal that ended it, if one did.
+ghost use mathlib.Core.Path.{_≡_};
+ghost use Rattle.descent_lexer.specs.Roles.{roleNumber};
+ghost use Rattle.descent_lexer.specs.Operators.{operatorNumber};
+ghost use Rattle.descent_lexer.specs.Kinds.{kindNumber, codeNumber};
+ghost use Rattle.descent_lexer.specs.Letters.{letterNumber};
 use basics::refusal::Reason;
 use basics::refusal::Refusal;
 
@@ -62,7 +67,9 @@ pub enum Letter {
 }
 
 impl Role {
-    pub fn number(self) -> u8 {
+    pub fn number(self) -> u8
+        ensures { λ r. ⌜ r ≡ roleNumber self ⌝ }
+    {
         match self {
             Role::Name => 1,
             Role::Arg => 2,
@@ -75,7 +82,9 @@ impl Role {
 }
 
 impl Operator {
-    pub fn number(self) -> u8 {
+    pub fn number(self) -> u8
+        ensures { λ r. ⌜ r ≡ operatorNumber self ⌝ }
+    {
         match self {
             Operator::Newline => 1,
             Operator::And => 2,
@@ -100,7 +109,9 @@ impl Operator {
 }
 
 impl Kind {
-    pub fn number(self) -> u8 {
+    pub fn number(self) -> u8
+        ensures { λ r. ⌜ r ≡ kindNumber self ⌝ }
+    {
         match self {
             Kind::Part => 1,
             Kind::Open => 2,
@@ -112,7 +123,9 @@ impl Kind {
     }
 
     // The number of the role or operator, else 0.
-    pub fn code(self) -> u8 {
+    pub fn code(self) -> u8
+        ensures { λ r. ⌜ r ≡ codeNumber self ⌝ }
+    {
         match self {
             Kind::Word(role) => role.number(),
             Kind::Operator(operator) => operator.number(),
@@ -123,7 +136,9 @@ impl Kind {
 
 impl Letter {
     // As a sheet has it: the mark's number times 256, and the byte. A script has no holes.
-    pub fn number(self) -> u16 {
+    pub fn number(self) -> u16
+        ensures { λ r. ⌜ r ≡ letterNumber self ⌝ }
+    {
         match self {
             Letter::Bare(b) => u16::from(b),
             Letter::Quoted(b) => 256 + u16::from(b),
