@@ -1,0 +1,4 @@
+pub mod Roles
+pub mod Operators
+pub mod Kinds
+pub mod Letters
