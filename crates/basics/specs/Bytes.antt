@@ -1,13 +1,9 @@
 -- Bytes by the names that a shell gives them, and what is asked of a text. Assumes nothing.
-use mathlib.Core.Bool.{cond, not}
 use mathlib.Core.List.{List}
 use mathlib.Core.Logic.{_≢_}
 use Prim.Native.Nat.{ℕ, _-_, _^_, min}
-use lib.Dec.{eqb, ltb}
-use lib.ListN.{length}
-use Rattle.std.specs.shelf.Lists.{All, countBy, leading}
-use Rattle.std.specs.declared.option.Option.{Option}
-use Rattle.std.specs.declared.option.Option.the-variants.{Some, None}
+use lib.Dec.{eqb}
+use Rattle.std.specs.shelf.Lists.{All, countBy}
 
 abbrev pub newline : ℕ
 newline = 10
@@ -21,13 +17,6 @@ backslash = 92
 -- how often a byte stands in a text
 abbrev pub occurrences : ℕ → List ℕ → ℕ
 occurrences b text = countBy (λ x. eqb x b) text
-
--- how many bytes stand before the first b, and its place where there is one
-abbrev pub before-first : ℕ → List ℕ → ℕ
-before-first b text = leading (λ x. not (eqb x b)) text
-
-abbrev pub first : ℕ → List ℕ → Option ℕ
-first b text = cond (ltb (before-first b text) (length text)) (Some (before-first b text)) None
 
 -- no byte 0 stands in the text
 abbrev pub Zero-free : List ℕ → Type 0

@@ -1,6 +1,6 @@
 // Questions about bytes.
 ghost use mathlib.Core.Path.{_≡_};
-ghost use Rattle.basics.specs.Bytes.{first, occurrences, told};
+ghost use Rattle.basics.specs.Bytes.{occurrences, told};
 
 // How often a byte stands in a text.
 pub fn count(text: &[u8], byte: u8) -> usize
@@ -11,18 +11,6 @@ pub fn count(text: &[u8], byte: u8) -> usize
         n += (*b == byte) as usize;
     }
     n
-}
-
-// The place of the first such byte in a text.
-pub fn find(text: &[u8], byte: u8) -> Option<usize>
-    ensures { λ r. ⌜ r ≡ first byte (now (text .entry)) ⌝ }
-{
-    for (i, b) in text.iter().enumerate() {
-        if *b == byte {
-            return Some(i);
-        }
-    }
-    None
 }
 
 // A length as a `usize` tells it: the largest number stands for all that is longer.

@@ -1,10 +1,10 @@
 // quote and unquote.
 use crate::command::Style;
 use basics::bytes::count;
-use basics::bytes::find;
 use basics::refusal::Reason;
 use basics::refusal::Refusal;
 use basics::refusal::RefusalDisplay;
+use basics::search::first_zero;
 use quoting::backslash::Backslash;
 use quoting::backslash::BackslashLawful;
 use quoting::backslash::BackslashQuoter;
@@ -44,7 +44,7 @@ fn write_form<Q: LawfulQuoter>(
 
 pub fn quote(rt: &LibcRuntime, style: Style, explain: bool) -> Result<(), AnyError> {
     let text = read_input(rt)?;
-    if let Some(place) = find(text.as_slice(), 0) {
+    if let Some(place) = first_zero(text.as_slice()) {
         let refusal = Refusal {
             reason: Reason::ZeroByte,
             place,

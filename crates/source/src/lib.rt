@@ -67,7 +67,13 @@ mod tests {
         check(s.replace(b"a", 7) == Ok(false))?;
         check_eq(next(&mut s), byte(b'b', 7))?;
         check(s.is_open(b"a"))?;
-        check_eq(next(&mut s), Some(Symbol { sign: Sign::AliasEnd, place: 7 }))?;
+        check_eq(
+            next(&mut s),
+            Some(Symbol {
+                sign: Sign::AliasEnd,
+                place: 7,
+            }),
+        )?;
         check(!s.is_open(b"a"))?;
         check_eq(next(&mut s), byte(b'x', 0))?;
         check_eq(next(&mut s), None)
