@@ -7,3 +7,4 @@ pub mod sink;
 pub mod state;
 pub mod text;
 pub mod words;
+pub mod run;
