@@ -32,6 +32,9 @@ pub record Sheets (S : Type 0) : Type 0 where
   pub filled : ℕ → S → Result S Refusal
   pub word : S → ℕ
 
+abbrev pub sheets : {S : Type 0} → (Act → ℕ → S → Result S Refusal) → (Fault → ℕ → S → Refusal) → (ℕ → S → Result S Refusal) → (S → ℕ) → Sheets S
+sheets written placed filled word = record { written = written; placed = placed; filled = filled; word = word }
+
 -- a word ends before the symbol that may be replaced
 abbrev pub candidate-is : Sign → Control → Bool
 candidate-is (Byte b) c = endsWord (classOf b) && named (redirects (classOf b)) c

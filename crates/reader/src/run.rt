@@ -1,17 +1,23 @@
 // Reading any source onto any sink.
 ghost use mathlib.Core.Path.{_≡_};
-ghost use mathlib.Core.List.{List};
-ghost use denote.Ref.{now};
-ghost use Rattle.std.specs.declared.option.Option.the-variants.{Some};
-ghost use Rattle.source.specs.declared.symbol.Sign.the-variants as sign;
-ghost use Rattle.reading.specs.Laid.{and, held};
-ghost use Rattle.reader.specs.Held.{lays-move, result};
+ghost use mathlib.Core.Bool.{true};
+ghost use Prim.Native.Nat.{_<_};
+ghost use Rattle.std.specs.declared.result.Result.the-variants.{Ok};
+ghost use Rattle.source.specs.Fronts.{comingOf};
+ghost use Rattle.source.specs.Symbols.{first};
+ghost use Rattle.reading.specs.Laid.{held};
+ghost use Rattle.reader.specs.Held.{result};
 ghost use Rattle.reader.specs.Holding.{controlOf};
-ghost use Rattle.reader.specs.Onto.{candidate-is, sign-move};
+ghost use Rattle.reader.specs.Onto.{candidate-is, sheets, sign-move};
+ghost use Rattle.reader.specs.Turns.{goes-on, own-from, reads-from, still-from};
 use crate::sink::Sink;
 use crate::state::Reader;
 use basics::refusal::Refusal;
+use source::alias::AliasSource;
+use source::replace::AliasSymbols;
+use source::source::Source;
 use source::symbol::Sign;
+use source::symbol::Symbol;
 use tokens::class::class_of;
 
 impl Reader {
@@ -43,6 +49,30 @@ impl Reader {
                 out.put_hole(digit)
             }
             Sign::AliasEnd => self.alias_end(place, out),
+        }
+    }
+
+    // The next symbol does its own work, or the text ends; says whether there is more.
+    fn own<S: Source, W: Sink>(&mut self, next: Option<Symbol>, source: &mut AliasSource<S>, out: &mut W) -> Result<bool, Refusal>
+        requires { ⌜ next ≡ first (comingOf (S·Source .coming) (now source)) ⌝ }
+        ensures goes {
+            λ r. ⌜ goes-on r
+                (reads-from (sheets (W·Sink .written) (W·Sink .placed) (W·Sink .filled) (W·Sink .word)) (S·Source .coming) (S·Source .end) (now (source .exit)) (controlOf (now (self .exit))) (W·Sink .sheet (now (out .exit))))
+                (W·Sink .sheet (now (out .exit)))
+                ≡ own-from (sheets (W·Sink .written) (W·Sink .placed) (W·Sink .filled) (W·Sink .word)) (S·Source .coming) (S·Source .end) (now (source .entry)) (controlOf (now (self .entry))) (W·Sink .sheet (now (out .entry))) ⌝
+        }
+        ensures falls { λ r. ⌜ (r ≡ Ok true → still-from (S·Source .coming) (now (source .exit)) < still-from (S·Source .coming) (now (source .entry))) ⌝ }
+    {
+        match next {
+            None => {
+                self.end(source.end_place(), out)?;
+                Ok(false)
+            }
+            Some(s) => {
+                self.step(s.sign, s.place, out)?;
+                source.take();
+                Ok(true)
+            }
         }
     }
 }
