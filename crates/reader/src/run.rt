@@ -9,10 +9,11 @@ ghost use Rattle.reading.specs.Laid.{held};
 ghost use Rattle.reader.specs.Held.{result};
 ghost use Rattle.reader.specs.Holding.{controlOf};
 ghost use Rattle.reader.specs.Onto.{candidate-is, sheets, sign-move};
-ghost use Rattle.reader.specs.Turns.{goes-on, own-from, reads-from, still-from};
+ghost use Rattle.reader.specs.Turns.{candidate-next, goes-on, own-from, place-next, reads-from, still-from};
 use crate::sink::Sink;
 use crate::state::Reader;
 use basics::refusal::Refusal;
+use reading::act::Act;
 use source::alias::AliasSource;
 use source::replace::AliasSymbols;
 use source::source::Source;
@@ -74,5 +75,47 @@ impl Reader {
                 Ok(true)
             }
         }
+    }
+
+    // A word ends before the next symbol, or at the end, that may be replaced.
+    fn may_be_replaced_before(&self, next: Option<Symbol>) -> bool
+        ensures { λ r. ⌜ r ≡ candidate-next next (controlOf (now (self .entry))) ⌝ }
+    {
+        match next {
+            None => self.is_named(false),
+            Some(s) => self.may_be_replaced(s.sign),
+        }
+    }
+
+    // One turn: a word is replaced, or the next symbol does its own work; says whether there is more.
+    fn turn<S: Source, W: Sink>(&mut self, source: &mut AliasSource<S>, out: &mut W) -> Result<bool, Refusal>
+        ensures goes {
+            λ r. ⌜ goes-on r
+                (reads-from (sheets (W·Sink .written) (W·Sink .placed) (W·Sink .filled) (W·Sink .word)) (S·Source .coming) (S·Source .end) (now (source .exit)) (controlOf (now (self .exit))) (W·Sink .sheet (now (out .exit))))
+                (W·Sink .sheet (now (out .exit)))
+                ≡ reads-from (sheets (W·Sink .written) (W·Sink .placed) (W·Sink .filled) (W·Sink .word)) (S·Source .coming) (S·Source .end) (now (source .entry)) (controlOf (now (self .entry))) (W·Sink .sheet (now (out .entry))) ⌝
+        }
+        ensures falls { λ r. ⌜ (r ≡ Ok true → still-from (S·Source .coming) (now (source .exit)) < still-from (S·Source .coming) (now (source .entry))) ⌝ }
+    {
+        let next = source.look();
+        if self.may_be_replaced_before(next) {
+            let place = place_before(next, source.end_place());
+            if source.replace(self.at.word.kept.text(), out.word_place())? {
+                out.put(Act::Forget, place)?;
+                self.drop_word();
+                return Ok(true);
+            }
+        }
+        self.own(next, source, out)
+    }
+}
+
+// The place of the next symbol, or of the end.
+fn place_before(next: Option<Symbol>, end: u16) -> u16
+    ensures { λ r. ⌜ r ≡ place-next end next ⌝ }
+{
+    match next {
+        None => end,
+        Some(s) => s.place,
     }
 }
