@@ -27,6 +27,12 @@ goes-on (Ok true) rest s = rest
 goes-on (Ok false) rest s = Ok s
 goes-on (Err x) rest s = Err x
 
+-- the same where a word was replaced, was not, or was one too many
+abbrev pub goes-replaced : {S : Type 0} → Result Bool Refusal → Result S Refusal → Result S Refusal → Result S Refusal
+goes-replaced (Ok true) rest own = rest
+goes-replaced (Ok false) rest own = own
+goes-replaced (Err x) rest own = Err x
+
 -- a word ends before the next symbol, or at the end, that may be replaced
 abbrev pub candidate-next : Option Symbol → Control → Bool
 candidate-next None c = named false c

@@ -1,6 +1,6 @@
 // Reading any source onto any sink.
 ghost use mathlib.Core.Path.{_≡_};
-ghost use mathlib.Core.Bool.{true};
+ghost use mathlib.Core.Bool.{true, false};
 ghost use Prim.Native.Nat.{_<_};
 ghost use Rattle.std.specs.declared.result.Result.the-variants.{Ok};
 ghost use Rattle.source.specs.Fronts.{comingOf};
@@ -9,7 +9,7 @@ ghost use Rattle.reading.specs.Laid.{held};
 ghost use Rattle.reader.specs.Held.{result};
 ghost use Rattle.reader.specs.Holding.{controlOf};
 ghost use Rattle.reader.specs.Onto.{candidate-is, sheets, sign-move};
-ghost use Rattle.reader.specs.Turns.{candidate-next, goes-on, own-from, place-next, reads-from, still-from};
+ghost use Rattle.reader.specs.Turns.{candidate-next, goes-on, goes-replaced, own-from, place-next, reads-from, still-from};
 use crate::sink::Sink;
 use crate::state::Reader;
 use basics::refusal::Refusal;
@@ -87,26 +87,26 @@ impl Reader {
         }
     }
 
-    // One turn: a word is replaced, or the next symbol does its own work; says whether there is more.
-    fn turn<S: Source, W: Sink>(&mut self, source: &mut AliasSource<S>, out: &mut W) -> Result<bool, Refusal>
+    // The word that ends here is replaced, if it is an alias whose end is not still to come.
+    fn replace_word<S: Source, W: Sink>(&mut self, next: Option<Symbol>, source: &mut AliasSource<S>, out: &mut W) -> Result<bool, Refusal>
+        requires { ⌜ next ≡ first (comingOf (S·Source .coming) (now source)) ⌝ }
+        requires { ⌜ candidate-next next (controlOf (now self)) ≡ true ⌝ }
         ensures goes {
-            λ r. ⌜ goes-on r
-                (reads-from (sheets (W·Sink .written) (W·Sink .placed) (W·Sink .filled) (W·Sink .word)) (S·Source .coming) (S·Source .end) (now (source .exit)) (controlOf (now (self .exit))) (W·Sink .sheet (now (out .exit))))
-                (W·Sink .sheet (now (out .exit)))
+            λ r. ⌜ goes-replaced r (reads-from (sheets (W·Sink .written) (W·Sink .placed) (W·Sink .filled) (W·Sink .word)) (S·Source .coming) (S·Source .end) (now (source .exit)) (controlOf (now (self .exit))) (W·Sink .sheet (now (out .exit)))) (own-from (sheets (W·Sink .written) (W·Sink .placed) (W·Sink .filled) (W·Sink .word)) (S·Source .coming) (S·Source .end) (now (source .exit)) (controlOf (now (self .exit))) (W·Sink .sheet (now (out .exit))))
                 ≡ reads-from (sheets (W·Sink .written) (W·Sink .placed) (W·Sink .filled) (W·Sink .word)) (S·Source .coming) (S·Source .end) (now (source .entry)) (controlOf (now (self .entry))) (W·Sink .sheet (now (out .entry))) ⌝
         }
         ensures falls { λ r. ⌜ (r ≡ Ok true → still-from (S·Source .coming) (now (source .exit)) < still-from (S·Source .coming) (now (source .entry))) ⌝ }
+        ensures stays { λ r. ⌜ (r ≡ Ok false → comingOf (S·Source .coming) (now (source .exit)) ≡ comingOf (S·Source .coming) (now (source .entry))) ⌝ }
+        ensures left { λ r. ⌜ (r ≡ Ok false → now (source .exit) .left ≡ now (source .entry) .left) ⌝ }
     {
-        let next = source.look();
-        if self.may_be_replaced_before(next) {
-            let place = place_before(next, source.end_place());
-            if source.replace(self.at.word.kept.text(), out.word_place())? {
-                out.put(Act::Forget, place)?;
-                self.drop_word();
-                return Ok(true);
-            }
+        let place = place_before(next, source.end_place());
+        let word_place = out.word_place();
+        if !source.replace(self.at.word.kept.text(), word_place)? {
+            return Ok(false);
         }
-        self.own(next, source, out)
+        out.put(Act::Forget, place)?;
+        self.drop_word();
+        Ok(true)
     }
 }
 
