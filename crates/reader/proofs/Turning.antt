@@ -44,13 +44,13 @@ module _ {S : Type 0} (W : Sheets S) (al : Aliases) (e : ℕ) where
 
   -- a reading is, at each turn, a replaced word or the next symbol's own work
   turned : (n : ℕ) (ss : List Symbol) (ns : List (List ℕ)) (c : Control) (s : S)
-    → readOn W al e n ss ns c s
-    ≡ or-replaced W al ns (cond (candidate-next (first ss) c) (Some (c .at .word .kept)) None) (puts-at n ss (place-next e (first ss)) ns c s) (own W al e n ss ns c s)
+      → readOn W al e n ss ns c s
+      ≡ or-replaced W al ns (cond (candidate-next (first ss) c) (Some (c .at .word .kept)) None) (puts-at n ss (place-next e (first ss)) ns c s) (own W al e n ss ns c s)
   turned n [] ns c s = is-onTo n [] ns c s
   turned n (x ∷ ss) ns c s =
       is-onTo n (x ∷ ss) ns c s
       ∙ (λ i. or-replaced W al ns (cond (candidate-next (Some x) c) (Some (c .at .word .kept)) None) (puts-at n (x ∷ ss) (x .place) ns c s)
-        (and (sign-move (W .written) (W .placed) (W .filled) (x .sign) (x .place) c s) (λ h. sym (is-onTo n ss (names-after (x .sign) ns) (h .at) (h .sheet)) i)))
+      (and (sign-move (W .written) (W .placed) (W .filled) (x .sign) (x .place) c s) (λ h. sym (is-onTo n ss (names-after (x .sign) ns) (h .at) (h .sheet)) i)))
 
   module _ (n : ℕ) (ss : List Symbol) (ns : List (List ℕ)) (c : Control) (s : S) where
     pub no-word : candidate-next (first ss) c ≡ false → readOn W al e n ss ns c s ≡ own W al e n ss ns c s
@@ -65,20 +65,20 @@ module _ {S : Type 0} (W : Sheets S) (al : Aliases) (e : ℕ) where
         by-test true = ap (λ (o : Option (List ℕ)). elim o as (λ _. Result S Refusal) [ None ↦ own W al e n ss ns c s | Some v ↦ puts-at n ss (place-next e (first ss)) ns c s (c .at .word .kept) v ]) h
 
     pub an-alias : (v : List ℕ) → candidate-next (first ss) c ≡ true → standsFor al ns (c .at .word .kept) ≡ Some v
-      → readOn W al e n ss ns c s ≡ puts-at n ss (place-next e (first ss)) ns c s (c .at .word .kept) v
+        → readOn W al e n ss ns c s ≡ puts-at n ss (place-next e (first ss)) ns c s (c .at .word .kept) v
     an-alias v t h = turned n ss ns c s
         ∙ ap (λ (x : Bool). or-replaced W al ns (cond x (Some (c .at .word .kept)) None) (puts-at n ss (place-next e (first ss)) ns c s) (own W al e n ss ns c s)) t
         ∙ ap (λ (o : Option (List ℕ)). elim o as (λ _. Result S Refusal) [ None ↦ own W al e n ss ns c s | Some v ↦ puts-at n ss (place-next e (first ss)) ns c s (c .at .word .kept) v ]) h
 
   -- the end's own work, and a symbol's
   pub own-at-end : (n : ℕ) (ss : List Symbol) (ns : List (List ℕ)) (c : Control) (s : S) → None ≡ first ss
-    → own W al e n ss ns c s ≡ and (lays-move (W .written) (W .placed) e (end c) s) (λ h. Ok (h .sheet))
+      → own W al e n ss ns c s ≡ and (lays-move (W .written) (W .placed) e (end c) s) (λ h. Ok (h .sheet))
   own-at-end n [] ns c s h = refl
   own-at-end n (x ∷ ss) ns c s h = let z : _≡_ {A = ℕ} 0 1 = cc in absurd (omega arith)
 
   pub own-at-symbol : (n : ℕ) (ss : List Symbol) (ns : List (List ℕ)) (c : Control) (s : S) (x : Symbol) → Some x ≡ first ss
-    → own W al e n ss ns c s
-    ≡ and (sign-move (W .written) (W .placed) (W .filled) (x .sign) (x .place) c s) (λ h. readOn W al e n (rest ss) (names-after (x .sign) ns) (h .at) (h .sheet))
+      → own W al e n ss ns c s
+      ≡ and (sign-move (W .written) (W .placed) (W .filled) (x .sign) (x .place) c s) (λ h. readOn W al e n (rest ss) (names-after (x .sign) ns) (h .at) (h .sheet))
   own-at-symbol n [] ns c s x h = let z : _≡_ {A = ℕ} 0 1 = cc in absurd (omega arith)
   own-at-symbol n (y ∷ ss) ns c s x h =
       let e′ : y ≡ x = cc in
@@ -100,8 +100,8 @@ named-after (y ∷ ss) ns x h = let e : y ≡ x = cc in ap (λ (z : Symbol). clo
 
 -- a reading is the same where all that it goes by is
 pub same-reading : {S : Type 0} (W : Sheets S) {t t′ : AliasTable} {e e′ n n′ : ℕ} {ss ss′ : List Symbol} {ns ns′ : List (List ℕ)} (c : Control) (s : S)
-  → t ≡ t′ → e ≡ e′ → n ≡ n′ → ss ≡ ss′ → ns ≡ ns′
-  → readOn W (aliasesOf t .named) e n ss ns c s ≡ readOn W (aliasesOf t′ .named) e′ n′ ss′ ns′ c s
+    → t ≡ t′ → e ≡ e′ → n ≡ n′ → ss ≡ ss′ → ns ≡ ns′
+    → readOn W (aliasesOf t .named) e n ss ns c s ≡ readOn W (aliasesOf t′ .named) e′ n′ ss′ ns′ c s
 same-reading W c s p q r u v = λ i. readOn W (aliasesOf (p i) .named) (q i) (r i) (u i) (v i) c s
 
 -- what an answer of the alias source tells
@@ -116,7 +116,7 @@ length-aliased [] p ss = omega arith
 length-aliased (b ∷ v) p ss = omega (arith, length-aliased v p ss)
 
 pub fewer-replaced : (o : Option (List ℕ)) (left place : ℕ) (ss : List Symbol) → Ok true ≡ replaceAnswer o left place
-  → ((v : List ℕ) → o ≡ Some v → length v ≤ 64) → still (replacedLeft o left) (replacedComing o left place ss) < still left ss
+    → ((v : List ℕ) → o ≡ Some v → length v ≤ 64) → still (replacedLeft o left) (replacedComing o left place ss) < still left ss
 fewer-replaced None left place ss h short = let z : _≡_ {A = ℕ} 0 1 = cc in absurd (omega arith)
 fewer-replaced (Some v) zero place ss h short = let z : _≡_ {A = ℕ} 0 1 = cc in absurd (omega arith)
 fewer-replaced (Some v) (suc n) place ss h short = omega (arith, length-aliased v place ss, short v refl)
@@ -127,22 +127,22 @@ module _ {S : Type 0} (W : Sheets S) (al : Aliases) (e : ℕ) (ss : List Symbol)
 
   -- a replaced word: the reading goes on with its value
   pub replaced-goes : (o : Option (List ℕ)) (left : ℕ) (t : S) → standsFor al ns word-kept ≡ o → Ok true ≡ replaceAnswer o left (W .word s)
-    → Ok t ≡ W .written act.Forget (place-next e (first ss)) s
-    → readOn W al e (replacedLeft o left) (replacedComing o left (W .word s) ss) (replacedNames o left word-kept ns) (without-word c) t ≡ readOn W al e left ss ns c s
+      → Ok t ≡ W .written act.Forget (place-next e (first ss)) s
+      → readOn W al e (replacedLeft o left) (replacedComing o left (W .word s) ss) (replacedNames o left word-kept ns) (without-word c) t ≡ readOn W al e left ss ns c s
   replaced-goes None left t q h w = let z : _≡_ {A = ℕ} 0 1 = cc in absurd (omega arith)
   replaced-goes (Some v) zero t q h w = let z : _≡_ {A = ℕ} 0 1 = cc in absurd (omega arith)
   replaced-goes (Some v) (suc n) t q h w =
       sym (an-alias W al e (suc n) ss ns c s v cand q
-        ∙ ap (λ (a : Result S Refusal). and a (λ u. readOn W al e n (aliased v (W .word s) ss) (word-kept ∷ ns) (without-word c) u)) (sym w))
+      ∙ ap (λ (a : Result S Refusal). and a (λ u. readOn W al e n (aliased v (W .word s) ss) (word-kept ∷ ns) (without-word c) u)) (sym w))
 
   -- the letters of the replaced word could not be withdrawn
   pub replaced-refused : (o : Option (List ℕ)) (left : ℕ) (x : Refusal) → standsFor al ns word-kept ≡ o → Ok true ≡ replaceAnswer o left (W .word s)
-    → Err x ≡ W .written act.Forget (place-next e (first ss)) s → Err x ≡ readOn W al e left ss ns c s
+      → Err x ≡ W .written act.Forget (place-next e (first ss)) s → Err x ≡ readOn W al e left ss ns c s
   replaced-refused None left x q h w = let z : _≡_ {A = ℕ} 0 1 = cc in absurd (omega arith)
   replaced-refused (Some v) zero x q h w = let z : _≡_ {A = ℕ} 0 1 = cc in absurd (omega arith)
   replaced-refused (Some v) (suc n) x q h w =
       sym (an-alias W al e (suc n) ss ns c s v cand q
-        ∙ ap (λ (a : Result S Refusal). and a (λ u. readOn W al e n (aliased v (W .word s) ss) (word-kept ∷ ns) (without-word c) u)) (sym w))
+      ∙ ap (λ (a : Result S Refusal). and a (λ u. readOn W al e n (aliased v (W .word s) ss) (word-kept ∷ ns) (without-word c) u)) (sym w))
 
   -- one replacement too many
   pub too-many : (o : Option (List ℕ)) (left : ℕ) (x : Refusal) → standsFor al ns word-kept ≡ o → Err x ≡ replaceAnswer o left (W .word s) → Err x ≡ readOn W al e left ss ns c s
@@ -167,6 +167,6 @@ short-value t ns w v h = by-listed (isListed w ns) h
     by-listed false q = short-rows (rows t) w v q
 
 pub same-own : {S : Type 0} (W : Sheets S) {t t′ : AliasTable} {e e′ n n′ : ℕ} {ss ss′ : List Symbol} {ns ns′ : List (List ℕ)} (c : Control) (s : S)
-  → t ≡ t′ → e ≡ e′ → n ≡ n′ → ss ≡ ss′ → ns ≡ ns′
-  → own W (aliasesOf t .named) e n ss ns c s ≡ own W (aliasesOf t′ .named) e′ n′ ss′ ns′ c s
+    → t ≡ t′ → e ≡ e′ → n ≡ n′ → ss ≡ ss′ → ns ≡ ns′
+    → own W (aliasesOf t .named) e n ss ns c s ≡ own W (aliasesOf t′ .named) e′ n′ ss′ ns′ c s
 same-own W c s p q r u v = λ i. own W (aliasesOf (p i) .named) (q i) (r i) (u i) (v i) c s

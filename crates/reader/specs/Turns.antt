@@ -61,3 +61,8 @@ own-from W coming end p c s = own W (aliasesOf (now (p .table)) .named) (end (p 
 
 abbrev pub still-from : {P : Type 0} → (P → List Symbol) → AliasSource P → ℕ
 still-from coming p = still (p .left) (comingOf coming p)
+
+-- the turns that there may still be at most
+abbrev pub turns-left : Bool → ℕ → ℕ
+turns-left true n = n + 1
+turns-left false n = 0

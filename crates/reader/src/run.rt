@@ -38,10 +38,8 @@ impl Reader {
 
     // The symbol does its own work.
     fn step<W: Sink>(&mut self, sign: Sign, place: u16, out: &mut W) -> Result<(), Refusal>
-        ensures {
-            λ r. ⌜ result r (held (controlOf (now (self .exit))) (W·Sink .sheet (now (out .exit))))
-                ≡ sign-move (W·Sink .written) (W·Sink .placed) (W·Sink .filled) sign place (controlOf (now (self .entry))) (W·Sink .sheet (now (out .entry))) ⌝
-        }
+        ensures { λ r. ⌜ result r (held (controlOf (now (self .exit))) (W·Sink .sheet (now (out .exit))))
+            ≡ sign-move (W·Sink .written) (W·Sink .placed) (W·Sink .filled) sign place (controlOf (now (self .entry))) (W·Sink .sheet (now (out .entry))) ⌝ }
     {
         match sign {
             Sign::Byte(b) => self.byte(b, place, out),
@@ -54,14 +52,17 @@ impl Reader {
     }
 
     // The next symbol does its own work, or the text ends; says whether there is more.
-    fn own<S: Source, W: Sink>(&mut self, next: Option<Symbol>, source: &mut AliasSource<S>, out: &mut W) -> Result<bool, Refusal>
+    fn own<S: Source, W: Sink>(
+        &mut self,
+        next: Option<Symbol>,
+        source: &mut AliasSource<S>,
+        out: &mut W,
+    ) -> Result<bool, Refusal>
         requires { ⌜ next ≡ first (comingOf (S·Source .coming) (now source)) ⌝ }
-        ensures goes {
-            λ r. ⌜ goes-on r
-                (reads-from (sheets (W·Sink .written) (W·Sink .placed) (W·Sink .filled) (W·Sink .word)) (S·Source .coming) (S·Source .end) (now (source .exit)) (controlOf (now (self .exit))) (W·Sink .sheet (now (out .exit))))
-                (W·Sink .sheet (now (out .exit)))
-                ≡ own-from (sheets (W·Sink .written) (W·Sink .placed) (W·Sink .filled) (W·Sink .word)) (S·Source .coming) (S·Source .end) (now (source .entry)) (controlOf (now (self .entry))) (W·Sink .sheet (now (out .entry))) ⌝
-        }
+        ensures goes { λ r. ⌜ goes-on r
+            (reads-from (sheets (W·Sink .written) (W·Sink .placed) (W·Sink .filled) (W·Sink .word)) (S·Source .coming) (S·Source .end) (now (source .exit)) (controlOf (now (self .exit))) (W·Sink .sheet (now (out .exit))))
+            (W·Sink .sheet (now (out .exit)))
+            ≡ own-from (sheets (W·Sink .written) (W·Sink .placed) (W·Sink .filled) (W·Sink .word)) (S·Source .coming) (S·Source .end) (now (source .entry)) (controlOf (now (self .entry))) (W·Sink .sheet (now (out .entry))) ⌝ }
         ensures falls { λ r. ⌜ (r ≡ Ok true → still-from (S·Source .coming) (now (source .exit)) < still-from (S·Source .coming) (now (source .entry))) ⌝ }
     {
         match next {
@@ -88,13 +89,16 @@ impl Reader {
     }
 
     // The word that ends here is replaced, if it is an alias whose end is not still to come.
-    fn replace_word<S: Source, W: Sink>(&mut self, next: Option<Symbol>, source: &mut AliasSource<S>, out: &mut W) -> Result<bool, Refusal>
+    fn replace_word<S: Source, W: Sink>(
+        &mut self,
+        next: Option<Symbol>,
+        source: &mut AliasSource<S>,
+        out: &mut W,
+    ) -> Result<bool, Refusal>
         requires { ⌜ next ≡ first (comingOf (S·Source .coming) (now source)) ⌝ }
         requires { ⌜ candidate-next next (controlOf (now self)) ≡ true ⌝ }
-        ensures goes {
-            λ r. ⌜ goes-replaced r (reads-from (sheets (W·Sink .written) (W·Sink .placed) (W·Sink .filled) (W·Sink .word)) (S·Source .coming) (S·Source .end) (now (source .exit)) (controlOf (now (self .exit))) (W·Sink .sheet (now (out .exit)))) (own-from (sheets (W·Sink .written) (W·Sink .placed) (W·Sink .filled) (W·Sink .word)) (S·Source .coming) (S·Source .end) (now (source .exit)) (controlOf (now (self .exit))) (W·Sink .sheet (now (out .exit))))
-                ≡ reads-from (sheets (W·Sink .written) (W·Sink .placed) (W·Sink .filled) (W·Sink .word)) (S·Source .coming) (S·Source .end) (now (source .entry)) (controlOf (now (self .entry))) (W·Sink .sheet (now (out .entry))) ⌝
-        }
+        ensures goes { λ r. ⌜ goes-replaced r (reads-from (sheets (W·Sink .written) (W·Sink .placed) (W·Sink .filled) (W·Sink .word)) (S·Source .coming) (S·Source .end) (now (source .exit)) (controlOf (now (self .exit))) (W·Sink .sheet (now (out .exit)))) (own-from (sheets (W·Sink .written) (W·Sink .placed) (W·Sink .filled) (W·Sink .word)) (S·Source .coming) (S·Source .end) (now (source .exit)) (controlOf (now (self .exit))) (W·Sink .sheet (now (out .exit))))
+            ≡ reads-from (sheets (W·Sink .written) (W·Sink .placed) (W·Sink .filled) (W·Sink .word)) (S·Source .coming) (S·Source .end) (now (source .entry)) (controlOf (now (self .entry))) (W·Sink .sheet (now (out .entry))) ⌝ }
         ensures falls { λ r. ⌜ (r ≡ Ok true → still-from (S·Source .coming) (now (source .exit)) < still-from (S·Source .coming) (now (source .entry))) ⌝ }
         ensures stays { λ r. ⌜ (r ≡ Ok false → comingOf (S·Source .coming) (now (source .exit)) ≡ comingOf (S·Source .coming) (now (source .entry))) ⌝ }
         ensures left { λ r. ⌜ (r ≡ Ok false → now (source .exit) .left ≡ now (source .entry) .left) ⌝ }
@@ -107,6 +111,40 @@ impl Reader {
         out.put(Act::Forget, place)?;
         self.drop_word();
         Ok(true)
+    }
+
+    // One turn: a word is replaced, or the next symbol does its own work; says whether there is more.
+    fn turn<S: Source, W: Sink>(
+        &mut self,
+        source: &mut AliasSource<S>,
+        out: &mut W,
+    ) -> Result<bool, Refusal>
+        ensures goes { λ r. ⌜ goes-on r (reads-from (sheets (W·Sink .written) (W·Sink .placed) (W·Sink .filled) (W·Sink .word)) (S·Source .coming) (S·Source .end) (now (source .exit)) (controlOf (now (self .exit))) (W·Sink .sheet (now (out .exit)))) (W·Sink .sheet (now (out .exit))) ≡ reads-from (sheets (W·Sink .written) (W·Sink .placed) (W·Sink .filled) (W·Sink .word)) (S·Source .coming) (S·Source .end) (now (source .entry)) (controlOf (now (self .entry))) (W·Sink .sheet (now (out .entry))) ⌝ }
+        ensures falls { λ r. ⌜ (r ≡ Ok true → still-from (S·Source .coming) (now (source .exit)) < still-from (S·Source .coming) (now (source .entry))) ⌝ }
+    {
+        let next = source.look();
+        if !self.may_be_replaced_before(next) {
+            return self.own(next, source, out);
+        }
+        if self.replace_word(next, source, out)? {
+            return Ok(true);
+        }
+        self.own(next, source, out)
+    }
+
+    // Reads all that the source gives, and writes it on the sink.
+    pub fn read<S: Source, W: Sink>(
+        &mut self,
+        source: &mut AliasSource<S>,
+        out: &mut W,
+    ) -> Result<(), Refusal>
+        ensures { λ r. ⌜ result r (W·Sink .sheet (now (out .exit))) ≡ reads-from (sheets (W·Sink .written) (W·Sink .placed) (W·Sink .filled) (W·Sink .word)) (S·Source .coming) (S·Source .end) (now (source .entry)) (controlOf (now (self .entry))) (W·Sink .sheet (now (out .entry))) ⌝ }
+    {
+        let mut more = true;
+        while more {
+            more = self.turn(source, out)?;
+        }
+        Ok(())
     }
 }
 

@@ -30,9 +30,10 @@ returns-in-Continue-end g c =
     let e = g .S·Source .end (p .below) in
     record {
       goes = sym (own-at-end W (aliasesOf (now (p .table)) .named) e (p .left) (comingOf (g .S·Source .coming) p) (openNames p) k s (sym (c .in-None .is) ∙ c .pre)
-        ∙ ap (λ (n : ℕ). and (lays-move (g .W·Sink .written) (g .W·Sink .placed) n (end k) s) (λ h. Ok (h .sheet))) (sym (c .end-place .ensures))
-        ∙ ap (λ (a : Result (Held Control (g .W·Sink .Sheet)) Refusal). and a (λ h. Ok (h .sheet))) (sym (c .in-Continue-end .ensures tt)));
-      falls = λ q. let z : _≡_ {A = ℕ} 0 1 = cc in absurd (omega arith) }
+          ∙ ap (λ (n : ℕ). and (lays-move (g .W·Sink .written) (g .W·Sink .placed) n (end k) s) (λ h. Ok (h .sheet))) (sym (c .end-place .ensures))
+          ∙ ap (λ (a : Result (Held Control (g .W·Sink .Sheet)) Refusal). and a (λ h. Ok (h .sheet))) (sym (c .in-Continue-end .ensures tt)));
+      falls = λ q. let z : _≡_ {A = ℕ} 0 1 = cc in absurd (omega arith);
+    }
 
 pub returns-in-Continue-step : need.returns-in-Continue-step
 returns-in-Continue-step g c =
@@ -48,9 +49,10 @@ returns-in-Continue-step g c =
     let is = sym (c .in-Some .is) ∙ c .pre in
     record {
       goes = same-reading W (controlOf (c .step .last .self)) (g .W·Sink .sheet (c .step .last .out)) (c .take .ensures .table) (c .take .ensures .end) (c .take .ensures .left) (c .take .ensures .coming) (c .take .ensures .names ∙ named-after ss ns x is)
-        ∙ sym (own-at-symbol W al e (p .left) ss ns k s x is
+          ∙ sym (own-at-symbol W al e (p .left) ss ns k s x is
           ∙ ap (λ (a : Result (Held Control (g .W·Sink .Sheet)) Refusal). and a (λ h. readOn W al e (p .left) (rest ss) (names-after (x .sign) ns) (h .at) (h .sheet))) (sym (c .in-Continue-step .ensures tt)));
-      falls = λ q. omega (arith, fewer (p .left) ss x is, c .take .ensures .left, ap length (c .take .ensures .coming)) }
+      falls = λ q. omega (arith, fewer (p .left) ss x is, c .take .ensures .left, ap length (c .take .ensures .coming));
+    }
 
 pub returns-in-Break-end : need.returns-in-Break-end
 returns-in-Break-end g c =
@@ -63,10 +65,11 @@ returns-in-Break-end g c =
     let r : c .from-residual .result ≡ Err (c .in-Break-end .field-0 .0) = rw (f .1, f .2) in
     record {
       goes = rw (f .1, f .2)
-        (sym (own-at-end W (aliasesOf (now (p .table)) .named) e (p .left) (comingOf (g .S·Source .coming) p) (openNames p) k s (sym (c .in-None .is) ∙ c .pre)
+          (sym (own-at-end W (aliasesOf (now (p .table)) .named) e (p .left) (comingOf (g .S·Source .coming) p) (openNames p) k s (sym (c .in-None .is) ∙ c .pre)
           ∙ ap (λ (n : ℕ). and (lays-move (g .W·Sink .written) (g .W·Sink .placed) n (end k) s) (λ h. Ok (h .sheet))) (sym (c .end-place .ensures))
           ∙ ap (λ (a : Result (Held Control (g .W·Sink .Sheet)) Refusal). and a (λ h. Ok (h .sheet))) (sym (c .in-Break-end .ensures tt))));
-      falls = λ q. let z : _≡_ {A = ℕ} 0 1 = cc in absurd (omega arith) }
+      falls = λ q. let z : _≡_ {A = ℕ} 0 1 = cc in absurd (omega arith);
+    }
 
 pub returns-in-Break-step : need.returns-in-Break-step
 returns-in-Break-step g c =
@@ -83,6 +86,7 @@ returns-in-Break-step g c =
     let r : c .from-residual-in-Break-step .result ≡ Err (c .in-Break-step .field-0 .0) = rw (f .1, f .2) in
     record {
       goes = rw (f .1, f .2)
-        (sym (own-at-symbol W al e (p .left) ss ns k s x (sym (c .in-Some .is) ∙ c .pre)
+          (sym (own-at-symbol W al e (p .left) ss ns k s x (sym (c .in-Some .is) ∙ c .pre)
           ∙ ap (λ (a : Result (Held Control (g .W·Sink .Sheet)) Refusal). and a (λ h. readOn W al e (p .left) (rest ss) (names-after (x .sign) ns) (h .at) (h .sheet))) (sym (c .in-Break-step .ensures tt))));
-      falls = λ q. let z : _≡_ {A = ℕ} 0 1 = cc in absurd (omega arith) }
+      falls = λ q. let z : _≡_ {A = ℕ} 0 1 = cc in absurd (omega arith);
+    }

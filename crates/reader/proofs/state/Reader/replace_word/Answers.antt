@@ -38,7 +38,7 @@ returns g c =
     let there : c .word-place-word-place .result ≡ W .word s = c .word-place-word-place .ensures in
     let place : c .place-before-place .result ≡ place-next e (first ss) = c .place-before-place .ensures ∙ (λ i. place-next (c .end-place .ensures i) (c .pre .0 i)) in
     let said : Ok true ≡ replaceAnswer o (p .left) (W .word s) =
-        ap (λ (b : Bool). Ok b) (sym (c .if-not-branch .left)) ∙ c .in-Continue-replace .ensures tt .said ∙ (λ i. replaceAnswer (standsFor al ns (text i)) (p .left) (there i)) in
+    ap (λ (b : Bool). Ok b) (sym (c .if-not-branch .left)) ∙ c .in-Continue-replace .ensures tt .said ∙ (λ i. replaceAnswer (standsFor al ns (text i)) (p .left) (there i)) in
     let t = g .W·Sink .sheet (c .put .last .self) in
     let put : Ok t ≡ W .written act.Forget (place-next e (first ss)) s = c .in-Continue-put .ensures tt ∙ ap (λ n. W .written act.Forget n s) place in
     let a = c .in-Continue-replace .ensures tt in
@@ -47,11 +47,12 @@ returns g c =
     let names = a .names ∙ (λ i. replacedNames (standsFor al ns (text i)) (p .left) (text i) ns) in
     record {
       goes = same-reading W (controlOf (c .drop-word .last .self)) t (a .table) (a .end) left coming names
-        ∙ ap (λ (d : Control). readOn W al e (replacedLeft o (p .left)) (replacedComing o (p .left) (W .word s) ss) (replacedNames o (p .left) w ns) d t) (c .drop-word .ensures)
-        ∙ replaced-goes W al e ss ns k s cand o (p .left) t refl said put;
+          ∙ ap (λ (d : Control). readOn W al e (replacedLeft o (p .left)) (replacedComing o (p .left) (W .word s) ss) (replacedNames o (p .left) w ns) d t) (c .drop-word .ensures)
+          ∙ replaced-goes W al e ss ns k s cand o (p .left) t refl said put;
       falls = λ q. omega (arith, fewer-replaced o (p .left) (W .word s) ss said (λ v. short-value (now (p .table)) ns w v), left, ap length coming);
       stays = λ q. let z : _≡_ {A = ℕ} 0 1 = cc in absurd (omega arith);
-      left = λ q. let z : _≡_ {A = ℕ} 0 1 = cc in absurd (omega arith) }
+      left = λ q. let z : _≡_ {A = ℕ} 0 1 = cc in absurd (omega arith);
+    }
 
 pub returns-in-Break-put : need.returns-in-Break-put
 returns-in-Break-put g c =
@@ -70,7 +71,7 @@ returns-in-Break-put g c =
     let there : c .word-place-word-place .result ≡ W .word s = c .word-place-word-place .ensures in
     let place : c .place-before-place .result ≡ place-next e (first ss) = c .place-before-place .ensures ∙ (λ i. place-next (c .end-place .ensures i) (c .pre .0 i)) in
     let said : Ok true ≡ replaceAnswer o (p .left) (W .word s) =
-        ap (λ (b : Bool). Ok b) (sym (c .if-not-branch .left)) ∙ c .in-Continue-replace .ensures tt .said ∙ (λ i. replaceAnswer (standsFor al ns (text i)) (p .left) (there i)) in
+    ap (λ (b : Bool). Ok b) (sym (c .if-not-branch .left)) ∙ c .in-Continue-replace .ensures tt .said ∙ (λ i. replaceAnswer (standsFor al ns (text i)) (p .left) (there i)) in
     let f = err-from-errBy (c .from-residual-in-Break-put .result) (c .from-residual-in-Break-put .ensures .1) in
     let r : c .from-residual-in-Break-put .result ≡ Err (c .in-Break-put .field-0 .0) = rw (f .1, f .2) in
     let put : Err (c .in-Break-put .field-0 .0) ≡ W .written act.Forget (place-next e (first ss)) s = c .in-Break-put .ensures tt ∙ ap (λ n. W .written act.Forget n s) place in
@@ -78,7 +79,8 @@ returns-in-Break-put g c =
       goes = rw (f .1, f .2) (replaced-refused W al e ss ns k s cand o (p .left) (c .in-Break-put .field-0 .0) refl said put);
       falls = λ q. let z : _≡_ {A = ℕ} 0 1 = cc in absurd (omega arith);
       stays = λ q. let z : _≡_ {A = ℕ} 0 1 = cc in absurd (omega arith);
-      left = λ q. let z : _≡_ {A = ℕ} 0 1 = cc in absurd (omega arith) }
+      left = λ q. let z : _≡_ {A = ℕ} 0 1 = cc in absurd (omega arith);
+    }
 
 pub returns-in-Break-replace : need.returns-in-Break-replace
 returns-in-Break-replace g c =
@@ -98,12 +100,13 @@ returns-in-Break-replace g c =
     let f = err-from-errBy (c .from-residual .result) (c .from-residual .ensures .1) in
     let r : c .from-residual .result ≡ Err (c .in-Break-replace .field-0 .0) = rw (f .1, f .2) in
     let said : Err (c .in-Break-replace .field-0 .0) ≡ replaceAnswer o (p .left) (W .word s) =
-        c .in-Break-replace .ensures tt .said ∙ (λ i. replaceAnswer (standsFor al ns (text i)) (p .left) (there i)) in
+    c .in-Break-replace .ensures tt .said ∙ (λ i. replaceAnswer (standsFor al ns (text i)) (p .left) (there i)) in
     record {
       goes = rw (f .1, f .2) (too-many W al e ss ns k s cand o (p .left) (c .in-Break-replace .field-0 .0) refl said);
       falls = λ q. let z : _≡_ {A = ℕ} 0 1 = cc in absurd (omega arith);
       stays = λ q. let z : _≡_ {A = ℕ} 0 1 = cc in absurd (omega arith);
-      left = λ q. let z : _≡_ {A = ℕ} 0 1 = cc in absurd (omega arith) }
+      left = λ q. let z : _≡_ {A = ℕ} 0 1 = cc in absurd (omega arith);
+    }
 
 pub returns-then-not-branch : need.returns-then-not-branch
 returns-then-not-branch g c =
@@ -121,7 +124,7 @@ returns-then-not-branch g c =
     let text : c .text .result .now ≡ w = c .text .ensures in
     let there : c .word-place-word-place .result ≡ W .word s = c .word-place-word-place .ensures in
     let said : Ok false ≡ replaceAnswer o (p .left) (W .word s) =
-        ap (λ (b : Bool). Ok b) (sym (c .if-not-branch .taken)) ∙ c .in-Continue-replace .ensures tt .said ∙ (λ i. replaceAnswer (standsFor al ns (text i)) (p .left) (there i)) in
+    ap (λ (b : Bool). Ok b) (sym (c .if-not-branch .taken)) ∙ c .in-Continue-replace .ensures tt .said ∙ (λ i. replaceAnswer (standsFor al ns (text i)) (p .left) (there i)) in
     let none = not-replaced o (p .left) (W .word s) said in
     let a = c .in-Continue-replace .ensures tt in
     let coming = a .coming ∙ (λ i. replacedComing (standsFor al ns (text i)) (p .left) (there i) ss) ∙ ap (λ x. replacedComing x (p .left) (W .word s) ss) none in
@@ -131,4 +134,5 @@ returns-then-not-branch g c =
       goes = same-own W k s (a .table) (a .end) left coming names ∙ sym (no-alias W al e (p .left) ss ns k s none);
       falls = λ q. let z : _≡_ {A = ℕ} 0 1 = cc in absurd (omega arith);
       stays = λ q. coming;
-      left = λ q. left }
+      left = λ q. left;
+    }
