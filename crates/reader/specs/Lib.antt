@@ -1,2 +1,4 @@
 pub mod Held
 pub mod Holding
+pub mod Onto
+pub mod Turns

@@ -3,6 +3,7 @@ pub mod expansions;
 pub mod holes;
 pub mod moves;
 pub mod operators;
+pub mod run;
 pub mod sink;
 pub mod state;
 pub mod text;

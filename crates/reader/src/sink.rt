@@ -20,9 +20,20 @@ pub trait Sink {
     // the refusal that a fault at a place comes to
     ghost placed: { Fault → ℕ → Sheet → Refusal };
 
+    // what it holds after the letter of a hole, by its digit
+    ghost filled: { ℕ → Sheet → Result Sheet Refusal };
+    // the place of the first byte of the word that is read
+    ghost word: { Sheet → ℕ };
+
     fn put(&mut self, act: Act, place: u16) -> Result<(), Refusal>
         ensures { λ r. ⌜ result r (sheet (now (self .exit))) ≡ written act place (sheet (now (self .entry))) ⌝ };
 
     fn refusal(&self, fault: Fault, place: u16) -> Refusal
         ensures { λ r. ⌜ r ≡ placed fault place (sheet (now (self .entry))) ⌝ };
+
+    fn put_hole(&mut self, digit: u8) -> Result<(), Refusal>
+        ensures { λ r. ⌜ result r (sheet (now (self .exit))) ≡ filled digit (sheet (now (self .entry))) ⌝ };
+
+    fn word_place(&self) -> u16
+        ensures { λ r. ⌜ r ≡ word (sheet (now (self .entry))) ⌝ };
 }
