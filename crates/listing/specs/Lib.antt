@@ -1,0 +1,6 @@
+pub mod Noting
+pub mod Writing
+pub mod Masks
+pub mod Laying
+pub mod Listing
+pub mod Checking
