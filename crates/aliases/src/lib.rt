@@ -1,4 +1,6 @@
 // The alias table: up to eight names, each with the value that replaces it.
+#![tactic(auto)]
+
 pub mod alias;
 pub mod calls;
 mod kept;

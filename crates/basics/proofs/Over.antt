@@ -1,5 +1,5 @@
 -- Laws of a page that is written from its start. Assumes nothing.
-use Rattle.std.proofs.Common.{◌≡◌, ℕ, ◌+◌, ◌-◌, ◌<◌, ◌≤◌, List, [], ◌∷◌, ◌++◌, length, take, drop, set, sym, refl, ap, ◌∙◌, append_assoc, add_one, arith, length-append}
+use Rattle.std.proofs.Common.{◌≡◌, ℕ, ◌+◌, ◌-◌, ◌<◌, ◌≤◌, List, [], ◌∷◌, ◌++◌, length, take, drop, set, sym, refl, ap, ◌∙◌, append_assoc, add-one, arith, length-append}
 use borrow.Rule.Slice.PartMut.{put_mid}
 use Rattle.std.proofs.lemmas.List.{take_at, drop-drop, drop_at, length-drop, take_rest, drop_all, append-nil, set_split}
 use Rattle.std.proofs.lemmas.Slice.{drop-append-drop}
@@ -41,4 +41,4 @@ put_part xs page last at h e =
 
 -- one element stored is a piece of one element pasted
 pub set_pasted : {X : Type 0} (page : List X) (at : ℕ) (x : X) → at < length page → set page at x ≡ pasted at (x ∷ []) page
-set_pasted page at x h = set_split page at x h ∙ ap (λ z. take at page ++ (x ∷ z)) (ap (λ n. drop n page) (sym (add_one at)) ∙ sym (drop-drop 1 at page))
+set_pasted page at x h = set_split page at x h ∙ ap (λ z. take at page ++ (x ∷ z)) (ap (λ n. drop n page) (sym (add-one at)) ∙ sym (drop-drop 1 at page))

@@ -1,5 +1,5 @@
 -- The refusals: the number, the layer and the words of each reason. Assumes nothing.
-use Rattle.std.specs.Prelude.{ℕ, List, [], ◌∷◌, ◌++◌, codes, decimal}
+use Rattle.std.specs.Prelude.{ℕ, List, ◌∷◌, ◌++◌, codes, decimal}
 use Rattle.basics.specs.declared.refusal.Reason.{Reason}
 use Rattle.basics.specs.declared.refusal.Reason.TheVariants.{TooLong, ZeroByte, BadAlias, BadHole, OpenQuote, ExpansionNotTaken, TooDeep, HoleNotTaken, OutOfPlace, Unfinished, HereDocument, NoRoom, TooManyReplacements, TemplateLoaded, NoTemplate, TooManyAliases, NoSuchAlias, Unbound, NoSuchHole, ScriptTooLong}
 use Rattle.basics.specs.declared.refusal.Refusal.{Refusal}

@@ -1,5 +1,7 @@
 // The speed of quoting: nanoseconds a byte to standard error, and counts alone to standard output. `bench lists` times lists too, and
 // `bench script FAMILY` writes the script that is listed, so that a shell can be timed on the same bytes.
+#![tactic(auto)]
+
 mod clock;
 mod lists;
 mod quotes;

@@ -1,4 +1,6 @@
 // How tokens make commands: stages, roles, reserved words, redirections, here-documents, frames and items.
+#![tactic(auto)]
+
 pub mod awaited;
 pub mod body;
 pub mod frame;

@@ -1,4 +1,6 @@
 // Runs the second reader, and beside it the product's, on many texts, and prints how many were read and how many differ.
+#![tactic(auto)]
+
 mod aliases;
 mod families;
 mod fill;

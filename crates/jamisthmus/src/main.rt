@@ -1,5 +1,7 @@
 // jamisthmus: the program on an engineer's desk. It quotes texts for a shell, reads quoted texts back, lists scripts,
 // checks templates, and replays journals of calls.
+#![tactic(auto)]
+
 mod command;
 mod input;
 mod quoting_commands;

@@ -3,7 +3,7 @@ use crate::command::Text;
 use crate::input::read_text;
 use crate::reading;
 use crate::reading::{MOST_LETTERS, MOST_RECORDS};
-use json::{JsonHoles, JsonItems, JsonRefusal};
+use json_lines::{JsonHoles, JsonItems, JsonRefusal};
 use listing::check::check_template;
 use views::caret::Pointed;
 use views::holes::Holes;

@@ -1,4 +1,6 @@
 // A journal of calls, and what is answered to it: the text of each line, parsed and printed.
+#![tactic(auto)]
+
 pub mod answers;
 pub mod call;
 pub mod escape;

@@ -1,4 +1,6 @@
 // Lists of scripts and checks of templates: what the reader writes, kept with its places.
+#![tactic(auto)]
+
 pub mod check;
 pub mod clear;
 pub mod list;

@@ -1,5 +1,7 @@
 // Makes pseudo-random calls on orders, and beside them on a second book, written with maps, that makes every check
 // itself; and prints how many calls were accepted and refused, and how often the two differ.
+#![tactic(auto)]
+
 mod book;
 mod comparison;
 mod desk;

@@ -1,5 +1,5 @@
 -- Calls one after another: what is left of them comes to what all of them come to. Assumes nothing.
-use Rattle.std.proofs.Common.{◌≡◌, ℕ, zero, suc, ◌+◌, ◌<◌, ◌≤◌, List, [], ◌∷◌, ◌++◌, length, get_or, take, drop, set, sym, refl, ap, ◌∙◌, add_one, arith}
+use Rattle.std.proofs.Common.{◌≡◌, ℕ, zero, suc, ◌+◌, ◌<◌, ◌≤◌, List, [], ◌∷◌, ◌++◌, length, get_or, take, drop, set, sym, refl, ap, ◌∙◌, add-one, arith}
 use Rattle.std.proofs.lemmas.List.{at_drop_more, at_drop_all, take-append-drop}
 use Rattle.orders.specs.declared.call.Call.{Call}
 use Rattle.orders.specs.declared.outcome.Outcome.{Outcome}
@@ -20,7 +20,7 @@ noted_at (suc i) (o ∷ os) x xs = ap (λ ys. o ∷ ys) (noted_at i os x xs)
 
 -- x is noted in its slot, the others behind it
 one_noted : {X : Type 0} (i : ℕ) (os : List X) (x : X) (xs : List X) → take (i + 1) (set os i x) ++ noted xs (drop (i + 1) (set os i x)) ≡ take i os ++ noted (x ∷ xs) (drop i os)
-one_noted i os x xs = ap (λ n. take n (set os i x) ++ noted xs (drop n (set os i x))) (add_one i) ∙ noted_at i os x xs
+one_noted i os x xs = ap (λ n. take n (set os i x) ++ noted xs (drop n (set os i x))) (add-one i) ∙ noted_at i os x xs
 
 -- the calls from the i-th on, where the book is b, the desk k and the outcomes os
 pub record Left (form : List ℕ → List ℕ) (calls : List Call) (b₀ : Book) (k₀ : Desk) (os₀ : List Outcome) (i : ℕ) (b : Book) (k : Desk) (os : List Outcome) : Type 0 where

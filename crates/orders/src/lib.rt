@@ -1,4 +1,6 @@
 // Orders: what a controller holds for one template, and the calls that are made on it.
+#![tactic(auto)]
+
 pub mod call;
 pub mod calls;
 pub mod contents;

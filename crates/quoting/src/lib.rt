@@ -1,4 +1,6 @@
 // Quoting: each text has a form, which a shell reads as that text.
+#![tactic(auto)]
+
 pub mod backslash;
 pub mod form;
 pub mod quoter;

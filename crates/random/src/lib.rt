@@ -1,4 +1,6 @@
 // Pseudo-random numbers, by xorshift64*.
+#![tactic(auto)]
+
 ghost use Rattle.std.specs.Prelude.{◌≡◌, true, ◌*◌, ◌%◌, ◌^◌, ◌<◌, ◌≤◌, max};
 ghost use Rattle.std.specs.Int.Bits.{bit_or};
 ghost use Rattle.random.specs.Shifts.{shifted};

@@ -1,4 +1,6 @@
 // The reader: it steps in place over any source, and writes to any sink.
+#![tactic(auto)]
+
 pub mod expansions;
 pub mod holes;
 pub mod moves;

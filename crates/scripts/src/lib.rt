@@ -1,5 +1,7 @@
 // Texts to try readers on: every short string over a few bytes, and pseudo-random scripts and templates, whole and damaged.
 // The same seed always gives the same texts.
+#![tactic(auto)]
+
 mod alias;
 mod damage;
 mod edge;

@@ -1,4 +1,6 @@
 // Where symbols come from: scripts, templates, and the values of aliases in front of either.
+#![tactic(auto)]
+
 pub mod alias;
 pub mod replace;
 pub mod script;

@@ -1,4 +1,6 @@
 // How bytes make tokens: byte classes, operators, letters, what is begun, and how a word opens.
+#![tactic(auto)]
+
 pub mod begun;
 pub mod bytes;
 pub mod class;

@@ -1,4 +1,6 @@
 // Trials of quoting: texts are taken through their form and back, and forms are damaged by one byte.
+#![tactic(auto)]
+
 mod random;
 mod tally;
 

@@ -1,4 +1,4 @@
-use Rattle.std.proofs.Common.{◌≡◌, ℕ, ◌<◌, List, [], ◌∷◌, ◌++◌, length, get_or, take, sym, refl, ap, ◌∙◌, add_one, arith, length-set, take-suc, take-suc-set}
+use Rattle.std.proofs.Common.{◌≡◌, ℕ, ◌<◌, List, [], ◌∷◌, ◌++◌, length, get_or, take, sym, refl, ap, ◌∙◌, add-one, arith, length-set, take-suc, take-suc-set}
 use lib.ListN.{length-replicate}
 use lib.Seq.{take-length}
 use Rattle.aliases.proofs.kept.padded.Goals as goal
@@ -13,7 +13,7 @@ loop-i-preserved g c =
     let h : i < length c.loop-i.bytes = omega (arith, inv.1) in
     let k : i < length c.args.text.now = c.loop-i-test.true in
     let v = get_or c.args.text.now i 0 in (
-      rw add_one (take-suc-set c.loop-i.bytes i v h ∙ ap (λ (r : List ℕ). r ++ v ∷ []) inv.0 ∙ sym (take-suc c.args.text.now i 0 k)),
+      rw add-one (take-suc-set c.loop-i.bytes i v h ∙ ap (λ (r : List ℕ). r ++ v ∷ []) inv.0 ∙ sym (take-suc c.args.text.now i 0 k)),
       simp length-set inv.1,
     )
 

@@ -2,8 +2,8 @@ use Rattle.std.proofs.Common.{refl, ◌∙◌, arith, length-set}
 use Rattle.aliases.proofs.Changes.{struck_out, struck_apart}
 use Rattle.aliases.proofs.table.AliasTable.strike.Goals as goal
 
-pub invariant-of-self : goal.invariant-of-self
-invariant-of-self c =
+pub invariant_of-self : goal.invariant_of-self
+invariant_of-self c =
     let t = c.args.self.now in
     let i = c.args.index in
     ((omega arith, length-set t.slots i _ ∙ t.within.1), (struck_apart t.slots t.count (omega arith) t.different i c.requires _, tt))

@@ -1,6 +1,6 @@
 use Rattle.std.proofs.Common.{◌≡◌, ℕ, List, ap, ◌∙◌, subst}
 use Rattle.std.specs.Fmt.{HasWritten}
-use Rattle.basics.specs.Refusals.{number_of, layer_of, layer_number, words_of, line, shown_of}
+use Rattle.basics.specs.Refusals.{number_of, layer_of, layer_number, words_of, line}
 use Rattle.basics.proofs.refusal.RefusalDisplay.fmt.Goals as goal
 
 same_line : (n m l k p : ℕ) (w v : List ℕ) → n ≡ m → l ≡ k → w ≡ v → line n l p w ≡ line m k p v

@@ -1,4 +1,6 @@
 // Lists, holes and refusals for other programs: one JSON object a line. In a text each character is one byte, from \u0000 to \u00ff.
+#![tactic(auto)]
+
 use basics::refusal::Refusal;
 use commands::item::Kind;
 use journal::listed::{Listed, kind_of, letter_of};
