@@ -1,6 +1,6 @@
 -- What was escaped is given back. Assumes nothing.
 use Rattle.std.proofs.Common.{◌≡◌, ℕ, ◌+◌, ◌*◌, ◌/◌, ◌%◌, ◌<◌, Bool, true, false, cond, ◌≢◌, List, [], ◌∷◌, ◌++◌, Some, None, Option, sym, refl, ap, ◌∙◌, arith, rules}
-use Rattle.std.specs.List.{AllByRecursion as All}
+use Rattle.std.specs.List.{AllByRecursion}
 use Rattle.journal.specs.declared.unescape.Place.TheVariants.{Outside, Percent, High}
 use Rattle.journal.specs.declared.unescape.Piece.TheVariants.{Leads, Gives, Bad}
 use Rattle.journal.specs.Escapes.{percent, is_plain, digit, escaped_byte, escaped, digit_value, first_digit, second_digit, piece, pieced, unescaped_from, unescaped, with_byte, EscapesComeBack}

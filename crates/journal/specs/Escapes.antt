@@ -1,6 +1,6 @@
 -- Bytes as a journal has them, and the way back. Assumes nothing.
 use Rattle.std.specs.Prelude.{◌≡◌, ℕ, ◌+◌, ◌-◌, ◌*◌, ◌/◌, ◌%◌, ◌<◌, Bool, cond, not, ◌&&◌, List, [], ◌∷◌, ◌++◌, Some, None, Option, ◌==◌, nat_le, nat_lt}
-use Rattle.std.specs.List.{AllByRecursion as All}
+use Rattle.std.specs.List.{AllByRecursion}
 use Rattle.journal.specs.declared.unescape.Place.{Place}
 use Rattle.journal.specs.declared.unescape.Place.TheVariants.{Outside, Percent, High}
 use Rattle.journal.specs.declared.unescape.Piece.{Piece}
@@ -74,4 +74,4 @@ behind before (Some bytes) = Some (before ++ bytes)
 
 -- The law: what was escaped is given back.
 abbrev pub EscapesComeBack : Type 0
-EscapesComeBack = (bytes : List ℕ) → All (λ b. b < 256) bytes → unescaped (escaped bytes) ≡ Some bytes
+EscapesComeBack = (bytes : List ℕ) → AllByRecursion (λ b. b < 256) bytes → unescaped (escaped bytes) ≡ Some bytes
