@@ -14,6 +14,7 @@ use command::{Command, HELP, HELP_ALL};
 use quoting_commands::{quote, unquote};
 use reading_commands::{check, list};
 use replay::replay;
+use std::process::ExitCode;
 
 fn run(rt: &HostRuntime) -> anyhow::Result<()> {
     match command::parse(rt)? {
@@ -28,12 +29,12 @@ fn run(rt: &HostRuntime) -> anyhow::Result<()> {
     Ok(())
 }
 
-fn main(rt: HostRuntime) -> anyhow::Result<()> {
+fn main(rt: HostRuntime) -> ExitCode {
     match run(&rt) {
-        Ok(()) => Ok(()),
+        Ok(()) => ExitCode::SUCCESS,
         Err(e) => {
-            eprintln!(rt; "jamisthmus: {e}")?;
-            Err(e)
+            let _ = eprintln!(rt; "jamisthmus: {e}");
+            ExitCode::FAILURE
         }
     }
 }

@@ -1,6 +1,7 @@
 // replay: the calls of a journal, and an answer to each.
 use crate::input::read_text;
 use crate::runs::make_calls;
+use anyhow::anyhow;
 use journal::call::Call;
 use journal::fault::Fault;
 use journal::parse::parse_line;
@@ -28,7 +29,7 @@ impl Journal {
         for line in text.lines() {
             number = number.saturating_add(1);
             if let Err(fault) = journal.take_line(heap, line) {
-                journal.fault = Some(format!(in heap; "journal line {number}: {fault}")?.into());
+                journal.fault = Some(anyhow!(format!(in heap; "journal line {number}: {fault}")?));
                 break;
             }
         }
