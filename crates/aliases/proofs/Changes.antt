@@ -3,7 +3,8 @@ use Rattle.std.proofs.Common.{◌≡◌, ℕ, zero, suc, ◌+◌, ◌-◌, ◌<�
 use mathlib.Core.Path.{fun_ext}
 use Rattle.std.proofs.lemmas.List.{map-set, map_push, set_past, take_more, take_more_set, length-take-le}
 use Rattle.std.proofs.lemmas.Slice.Eq.{bytes_eq-Decides}
-use Rattle.std.proofs.lemmas.Bool.{cases_Bool, cases_lt, both_ways, and_parts, and_from, not_true, not_from_false}
+use Rattle.std.proofs.lemmas.Cmp.{nat_list_eq_equiv}
+use Rattle.std.proofs.lemmas.Bool.{cases_Bool, cases_lt, both_ways, and_parts, and_from, not-true, not_from_false}
 use Rattle.std.specs.Map.{update}
 use Rattle.std.specs.Str.{bytes_eq}
 use Rattle.aliases.specs.declared.alias.Alias.{Alias}
@@ -15,7 +16,10 @@ Look = List ℕ → Option (List ℕ)
 
 -- a look-up with another answer at a name
 abbrev at : Look → List ℕ → Option (List ℕ) → Look
-at f n v = update bytes_eq f n v
+at f n v q = cond (bytes_eq q n) v (f q)
+
+at_is_update : (f : Look) (n : List ℕ) (v : Option (List ℕ)) → at f n v ≡ update bytes_eq f n v
+at_is_update f n v = fun_ext (λ q. ap (λ b. cond b v (f q)) (nat_list_eq_equiv.symm q n))
 
 flip : (n m : List ℕ) → bytes_eq n m ≡ false → bytes_eq m n ≡ false
 flip n m h = same_not m n (λ e. both_ways (bytes_eq n m) h (same_if n m (sym e)))
@@ -36,7 +40,7 @@ pub free_none : (row : List Alias) (n : List ℕ) → is_free n (names row) ≡ 
 free_none [] n h = refl
 free_none (a ∷ row) n h =
     let p = and_parts (not (bytes_eq n (name_of a))) (is_free n (names row)) h in
-    let o : bytes_eq n (name_of a) ≡ false = not_true _ p.0 in
+    let o : bytes_eq n (name_of a) ≡ false = not-true _ p.0 in
     rw o (free_none row n p.1)
 
 free_stays : (row : List Alias) (n : List ℕ) → is_free n (names row) ≡ true → at (look_up row) n None ≡ look_up row
@@ -51,12 +55,12 @@ behind [] a h = refl
 behind (b ∷ row) a h =
     let p = and_parts (not (bytes_eq (name_of a) (name_of b))) (is_free (name_of a) (names row)) h in
     ap (λ f. at f (name_of b) (Some (value_of b))) (behind row a p.1)
-    ∙ commute (look_up row) (name_of a) (name_of b) (Some (value_of a)) (Some (value_of b)) (not_true _ p.0)
+    ∙ commute (look_up row) (name_of a) (name_of b) (Some (value_of a)) (Some (value_of b)) (not-true _ p.0)
 
 -- a name that is free differs from the name at an index
 differs : (row : List Alias) (i : ℕ) (n : List ℕ) → i < length row → is_free n (names row) ≡ true → bytes_eq n (name_at row i) ≡ false
 differs [] i n l h = absurd (omega arith)
-differs (a ∷ row) zero n l h = not_true _ (and_parts (not (bytes_eq n (name_of a))) (is_free n (names row)) h).0
+differs (a ∷ row) zero n l h = not-true _ (and_parts (not (bytes_eq n (name_of a))) (is_free n (names row)) h).0
 differs (a ∷ row) (suc i) n l h = differs row i n (omega arith) (and_parts (not (bytes_eq n (name_of a))) (is_free n (names row)) h).1
 
 -- an alias in the place of one of the same name
@@ -89,7 +93,7 @@ struck (b ∷ row) z (suc i) l g h =
     let d : bytes_eq (name_of b) (name_at row i) ≡ false = differs row i (name_of b) (omega arith) p.0 in
     ap (λ f. at f (name_of b) (Some (value_of b))) (struck row z i (omega arith) k.1 p.1)
     ∙ commute (at (look_up row) (name_of z) (Some (value_of z))) (name_at row i) (name_of b) None (Some (value_of b)) (flip (name_of b) (name_at row i) d)
-    ∙ ap (λ f. at f (name_at row i) None) (commute (look_up row) (name_of z) (name_of b) (Some (value_of z)) (Some (value_of b)) (not_true _ k.0))
+    ∙ ap (λ f. at f (name_at row i) None) (commute (look_up row) (name_of z) (name_of b) (Some (value_of z)) (Some (value_of b)) (not-true _ k.0))
 
 pub struck_last : (row : List Alias) (z : Alias) → is_free (name_of z) (names row) ≡ true → look_up row ≡ at (at (look_up row) (name_of z) (Some (value_of z))) (name_of z) None
 struck_last row z g = sym (again (look_up row) (name_of z) (Some (value_of z)) None ∙ free_stays row (name_of z) g)
@@ -107,10 +111,10 @@ apart_push [] m h g = refl
 apart_push (n ∷ ns) m h g =
     let p = and_parts (is_free n ns) (apart ns) h in
     let k = and_parts (not (bytes_eq m n)) (is_free m ns) g in
-    and_from _ _ (free_push n m ns p.0 (flip m n (not_true _ k.0))) (apart_push ns m p.1 k.1)
+    and_from _ _ (free_push n m ns p.0 (flip m n (not-true _ k.0))) (apart_push ns m p.1 k.1)
 
 free_pop : (n m : List ℕ) (ns : List (List ℕ)) → is_free n (ns ++ m ∷ []) ≡ true → (is_free n ns ≡ true) × (bytes_eq n m ≡ false)
-free_pop n m [] h = (refl, not_true _ (and_parts (not (bytes_eq n m)) true h).0)
+free_pop n m [] h = (refl, not-true _ (and_parts (not (bytes_eq n m)) true h).0)
 free_pop n m (k ∷ ns) h =
     let p = and_parts (not (bytes_eq n k)) (is_free n (ns ++ m ∷ [])) h in
     let r = free_pop n m ns p.1 in
@@ -138,7 +142,7 @@ apart_set (n ∷ ns) m zero h g =
 apart_set (n ∷ ns) m (suc i) h g =
     let p = and_parts (is_free n ns) (apart ns) h in
     let k = and_parts (not (bytes_eq m n)) (is_free m ns) g in
-    and_from _ _ (free_set n m ns i p.0 (flip m n (not_true _ k.0))) (apart_set ns m i p.1 k.1)
+    and_from _ _ (free_set n m ns i p.0 (flip m n (not-true _ k.0))) (apart_set ns m i p.1 k.1)
 
 -- the value at an index is the value at its name
 pub value_known : (row : List Alias) (i : ℕ) (n : List ℕ) → i < length row → name_at row i ≡ n → apart (names row) ≡ true → look_up row n ≡ Some (value_at row i)
@@ -168,8 +172,11 @@ name_last (b ∷ row) z = name_last row z
 
 module _ (slots : List Alias) (n : ℕ) (within : n ≤ length slots) (h : apart (names (take n slots)) ≡ true) where
   module _ (i : ℕ) (a : Alias) (l : i < n) (e : name_at (take n slots) i ≡ name_of a) where
-    pub replaced : look_up (take n (set slots i a)) ≡ at (look_up (take n slots)) (name_of a) (Some (value_of a))
-    replaced = ap look_up (take_set_any n slots i a) ∙ instead (take n slots) i a (omega (arith, length_row slots n within)) e h
+    pub replaced : look_up (take n (set slots i a)) ≡ update bytes_eq (look_up (take n slots)) (name_of a) (Some (value_of a))
+    replaced =
+        ap look_up (take_set_any n slots i a)
+        ∙ instead (take n slots) i a (omega (arith, length_row slots n within)) e h
+        ∙ at_is_update (look_up (take n slots)) (name_of a) (Some (value_of a))
 
     pub replaced_apart : apart (names (take n (set slots i a))) ≡ true
     replaced_apart = ap apart (ap names (take_set_any n slots i a) ∙ same_names (take n slots) i a e) ∙ h
@@ -178,8 +185,8 @@ module _ (slots : List Alias) (n : ℕ) (within : n ≤ length slots) (h : apart
     more : take (n + 1) (set slots n a) ≡ take n slots ++ a ∷ []
     more = take_more_set slots n a l
 
-    pub appended : look_up (take (n + 1) (set slots n a)) ≡ at (look_up (take n slots)) (name_of a) (Some (value_of a))
-    appended = ap look_up more ∙ behind (take n slots) a g
+    pub appended : look_up (take (n + 1) (set slots n a)) ≡ update bytes_eq (look_up (take n slots)) (name_of a) (Some (value_of a))
+    appended = ap look_up more ∙ behind (take n slots) a g ∙ at_is_update (look_up (take n slots)) (name_of a) (Some (value_of a))
 
     pub appended_apart : apart (names (take (n + 1) (set slots n a))) ≡ true
     appended_apart = ap (λ r. apart (names r)) more ∙ ap apart (map_push name_of (take n slots) a) ∙ apart_push (names (take n slots)) (name_of a) h g
@@ -215,8 +222,9 @@ module _ (slots : List Alias) (n : ℕ) (within : n ≤ length slots) (h : apart
       ap (λ r. apart (names r)) (take_set_any (n - 1) slots i (get_or slots (n - 1) d))
       ∙ less_apart (take (n - 1) slots) (get_or slots (n - 1) d) i short (ap (λ r. apart (names r)) (sym all) ∙ h)
 
-  pub struck_out : look_up (take (n - 1) (set slots i (get_or slots (n - 1) d))) ≡ at (look_up (take n slots)) (name_at (take n slots) i) None
+  pub struck_out : look_up (take (n - 1) (set slots i (get_or slots (n - 1) d))) ≡ update bytes_eq (look_up (take n slots)) (name_at (take n slots) i) None
   struck_out =
       ap look_up (take_set_any (n - 1) slots i (get_or slots (n - 1) d))
       ∙ less (take (n - 1) slots) (get_or slots (n - 1) d) i short (ap (λ r. apart (names r)) (sym all) ∙ h)
       ∙ sym (ap (λ r. at (look_up r) (name_at r i) None) all)
+      ∙ at_is_update (look_up (take n slots)) (name_at (take n slots) i) None

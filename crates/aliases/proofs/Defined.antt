@@ -1,5 +1,5 @@
 -- The ways that a definition and a removal of an alias go. Assumes nothing.
-use Rattle.std.proofs.Common.{◌≡◌, ℕ, ◌+◌, ◌-◌, ◌<◌, true, false, cond, not, ◌&&◌, leb, List, is_some, Some, None, Option, sym, ap, ◌∙◌, ap₂}
+use Rattle.std.proofs.Common.{◌≡◌, ℕ, ◌+◌, ◌<◌, true, false, cond, not, ◌&&◌, leb, List, is_some, Some, None, Option, sym, ap, ◌∙◌, ap₂}
 use Rattle.std.proofs.lemmas.Bool.{lt-leb}
 use Rattle.basics.specs.Checks.{refuse_if, or_else, unless}
 use Rattle.basics.specs.declared.refusal.Refusal.{Refusal}

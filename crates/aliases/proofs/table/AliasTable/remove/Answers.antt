@@ -1,4 +1,4 @@
-use Rattle.std.proofs.Common.{true, false, is_some, None, sym, ap, ◌∙◌}
+use Rattle.std.proofs.Common.{is_some, None, sym, ap, ◌∙◌}
 use Rattle.std.specs.Map.{update}
 use Rattle.std.specs.Str.{bytes_eq}
 use Rattle.std.proofs.lemmas.Bool.{true≢false}

@@ -6,7 +6,10 @@ pub invariant_of-self : goal.invariant_of-self
 invariant_of-self c =
     let t = c.args.self.now in
     let i = c.args.index in
-    ((omega arith, length-set t.slots i _ ∙ t.within.1), (struck_apart t.slots t.count (omega arith) t.different i c.requires _, tt))
+    record {
+      within = (omega arith, length-set t.slots i _ ∙ t.within.1);
+      different = struck_apart t.slots t.count (omega arith) t.different i c.requires _;
+    }
 
 pub returns : goal.returns
 returns c =
