@@ -1,10 +1,10 @@
 -- The text delivered so far, and the byte that comes next. Assumes nothing.
-use Rattle.std.proofs.Common.{◌≡◌, ℕ, ◌+◌, ◌<◌, ◌≤◌, List, [], ◌∷◌, length, get_or, drop, Some, None, Option, sym, refl, ap, ◌∙◌, inl, inr, arith}
+use Rattle.std.proofs.Common.{◌≡◌, ℕ, ◌+◌, ◌<◌, ◌≤◌, List, [], length, get_or, drop, Some, None, Option, ap, inl, inr, arith}
 use Rattle.std.proofs.lemmas.List.{drop_more, drop_all, length-drop}
 use Rattle.std.proofs.lemmas.Bool.{cases_lt}
 use Rattle.quoting.specs.declared.form.State.{State}
 use Rattle.quoting.specs.declared.form.State.TheVariants.{Bare, Escaped, SingleQuoted}
-use Rattle.quoting.specs.Forms.{with_byte, ended, LawfulForm}
+use Rattle.quoting.specs.Forms.{with_byte, ended}
 
 pub record Next (text : List ℕ) (at b : ℕ) (rest : Option (List ℕ)) : Type 0 where
   pub within : at < length text

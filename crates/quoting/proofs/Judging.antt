@@ -1,5 +1,5 @@
 -- A form judged from within: from a state, with i bytes read and n delivered. Assumes nothing.
-use Rattle.std.proofs.Common.{◌≡◌, ℕ, ◌+◌, ◌*◌, ◌<◌, ◌≤◌, Bool, true, false, cond, leb, List, [], ◌∷◌, length, drop, Some, None, Ok, Err, Option, Result, sym, refl, ap, ◌∙◌, arith}
+use Rattle.std.proofs.Common.{◌≡◌, ℕ, ◌+◌, ◌<◌, Bool, true, false, cond, leb, List, [], ◌∷◌, length, Some, None, Ok, Err, Option, Result, refl, ap, ◌∙◌, arith}
 use Rattle.quoting.specs.declared.form.State.{State}
 use Rattle.quoting.specs.declared.form.State.TheVariants.{Bare}
 use Rattle.quoting.specs.declared.form.Step.{Step}

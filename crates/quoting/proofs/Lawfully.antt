@@ -1,7 +1,6 @@
 -- Lawful forms are those that are read back, each as its text. Assumes nothing.
-use Rattle.std.proofs.Common.{◌≡◌, ℕ, ◌≤◌, Bool, true, false, cond, leb, List, [], ◌∷◌, length, Some, None, Ok, Err, Option, Result, sym, refl, ap, ◌∙◌, arith}
+use Rattle.std.proofs.Common.{◌≡◌, ℕ, Bool, true, false, cond, leb, List, [], ◌∷◌, length, Some, None, Ok, Err, Option, Result, refl, ap, ◌∙◌, arith}
 use Rattle.std.proofs.lemmas.Bool.{le-leb, leb-true, cond-true}
-use Rattle.basics.specs.Pages.{over}
 use Rattle.basics.proofs.Over.{written_fits}
 use Rattle.quoting.specs.declared.form.State.TheVariants.{Bare}
 use Rattle.quoting.specs.declared.unquote.Unread.{Unread}

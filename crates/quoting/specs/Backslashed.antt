@@ -1,12 +1,12 @@
 -- The form with backslashes: its pieces, its length, and that it is lawful. Assumes nothing.
-use Rattle.std.specs.Prelude.{◌≡◌, ℕ, ◌+◌, ◌*◌, ◌<◌, ◌≤◌, Bool, true, false, cond, ◌≢◌, List, [], ◌∷◌, ◌++◌, length, Some, codes, ◌==◌, nat_eq, refl}
-use Rattle.std.proofs.Common.{sym, ap, ◌∙◌, inl, inr, arith}
+use Rattle.std.specs.Prelude.{◌≡◌, ℕ, ◌+◌, ◌*◌, ◌<◌, ◌≤◌, Bool, true, false, cond, ◌≢◌, List, [], ◌∷◌, length, Some, codes, ◌==◌, nat_eq, refl}
+use Rattle.std.proofs.Common.{ap, ◌∙◌, inl, inr, arith}
 use Rattle.std.proofs.lemmas.Bool.{cases_eq, eq-eqb, ne_eqb}
 use Rattle.std.proofs.lemmas.List.Sums.{count_by-le-length}
 use Rattle.std.specs.List.{flat_map}
 use Rattle.basics.specs.Bytes.{newline, backslash, occurrences}
 use Rattle.quoting.specs.declared.form.State.TheVariants.{Bare, Escaped}
-use Rattle.quoting.specs.Forms.{delivered, with_byte, LawfulForm, Lawful}
+use Rattle.quoting.specs.Forms.{delivered, with_byte, Lawful}
 use Rattle.quoting.specs.Backslashes.{escaped, backslashed}
 use Rattle.quoting.specs.Joins.{joined_length}
 use Rattle.quoting.specs.Steps.{delivers, escaped_byte}

@@ -1,4 +1,4 @@
-use Rattle.std.proofs.Common.{◌≡◌, ◌<◌, length, ap, arith}
+use Rattle.std.proofs.Common.{◌<◌, length, ap, arith}
 use Rattle.quoting.specs.Backslashed.{backslashed_is, pieces_length}
 use Rattle.quoting.proofs.backslash.form_length.Goals as goal
 

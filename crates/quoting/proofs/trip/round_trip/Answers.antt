@@ -1,7 +1,7 @@
-use Rattle.std.proofs.Common.{◌≡◌, ℕ, ◌-◌, ◌≤◌, true, leb, List, ◌++◌, length, take, drop, sym, refl, ap, ◌∙◌, arith}
+use Rattle.std.proofs.Common.{◌≡◌, ◌-◌, ◌≤◌, true, leb, length, take, drop, sym, ap, ◌∙◌, arith}
 use Rattle.std.proofs.lemmas.List.{take_at}
 use Rattle.std.proofs.lemmas.Bool.{leb-true, cond-true}
-use Rattle.basics.specs.Pages.{over, written}
+use Rattle.basics.specs.Pages.{over}
 use Rattle.basics.proofs.Over.{written_fits}
 use Rattle.quoting.specs.Forms.{unquoted}
 use Rattle.quoting.specs.Trips.{told_back, left_back}

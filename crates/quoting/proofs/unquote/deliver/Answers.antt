@@ -1,9 +1,9 @@
-use Rattle.std.proofs.Common.{◌≡◌, ℕ, ◌+◌, ◌<◌, ◌≤◌, List, [], ◌∷◌, ◌++◌, length, get_or, take, drop, set, Some, None, sym, refl, ap, ◌∙◌, arith}
+use Rattle.std.proofs.Common.{◌≡◌, ℕ, ◌+◌, ◌<◌, ◌≤◌, List, [], ◌∷◌, ◌++◌, length, get_or, take, drop, set, Some, sym, ap, ◌∙◌, arith}
 use Rattle.std.proofs.lemmas.List.{at_drop_more, at_drop_all, take_all, take_more, length-take-le}
 use Rattle.basics.specs.Pages.{over}
 use Rattle.basics.proofs.Over.{put_more, set_pasted, length_over}
 use Rattle.quoting.specs.declared.form.State.{State}
-use Rattle.quoting.specs.declared.form.Step.TheVariants.{Passes, Delivers, Unlawful}
+use Rattle.quoting.specs.declared.form.Step.TheVariants.{Delivers}
 use Rattle.quoting.specs.Forms.{step, delivered, unquoted}
 use Rattle.quoting.specs.Unquoting.{text_of}
 use Rattle.quoting.specs.Steps.{passes, delivers, stops}
@@ -61,7 +61,7 @@ loop-b-preserved c =
       | goal.in-Delivers w ↦
           (let n = next form text s w.in-Delivers.next i at c.loop-b-test.true c.loop-b.invariant.0 (sym w.in-Delivers.ensures) in (
             ap (λ t. delivered t (drop (i + 1) form)) w.state-is ∙ n.is_rest ∙ ap (λ m. Some (drop m text)) (sym w.at-is),
-            w.part-is ∙ stored text c.args.part.now c.loop-b.part at (get_or form i 0) n.within c.requires.1 n.is_byte c.loop-b.invariant.1
+            w.part-is ∙ stored text c.args.part.now c.loop-b.part at (get_or form i 0) n.within c.requires.form_in_bounds n.is_byte c.loop-b.invariant.1
                 ∙ ap (λ m. over (take m text) c.args.part.now) (sym w.at-is),
             omega (arith, w.at-is, n.within),
           ))

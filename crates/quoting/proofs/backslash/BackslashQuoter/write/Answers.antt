@@ -1,8 +1,8 @@
-use Rattle.std.proofs.Common.{◌≡◌, ℕ, ◌+◌, ◌<◌, ◌≤◌, true, leb, List, [], ◌∷◌, ◌++◌, length, get_or, take, sym, refl, ap, ◌∙◌, arith}
+use Rattle.std.proofs.Common.{◌≡◌, ℕ, ◌+◌, ◌<◌, ◌≤◌, true, leb, List, [], length, get_or, take, sym, ap, ◌∙◌, arith}
 use Rattle.std.proofs.lemmas.List.{take_all}
 use Rattle.std.proofs.lemmas.Bool.{leb-true}
 use Rattle.std.specs.List.{flat_map}
-use Rattle.basics.specs.Pages.{over, written}
+use Rattle.basics.specs.Pages.{over}
 use Rattle.basics.proofs.Over.{written_fits}
 use Rattle.quoting.specs.Backslashes.{escaped, backslashed}
 use Rattle.quoting.specs.Joins.{joined_room, joined_put}
@@ -20,13 +20,13 @@ pub put-at-requires : goal.put-at-requires
 put-at-requires c =
     let text = c.args.text.now in
     let i = c.loop-b.b-index in
-    omega (arith, room text c.args.part.now i (sym c.has-room.ensures ∙ c.if-not-has-room.false) c.loop-b-test.true, ap length (escaped_newline (get_or text i 0) c.if-b-eq10.true))
+    omega (arith, room text c.args.part.now i (sym c.has_room.ensures ∙ c.if-not-has_room.false) c.loop-b-test.true, ap length (escaped_newline (get_or text i 0) c.if-b-eq10.true))
 
 pub put-at-requires-else-b-eq10 : goal.put-at-requires-else-b-eq10
 put-at-requires-else-b-eq10 c =
     let text = c.args.text.now in
     let i = c.loop-b.b-index in
-    omega (arith, room text c.args.part.now i (sym c.has-room.ensures ∙ c.if-not-has-room.false) c.loop-b-test.true, ap length (escaped_other (get_or text i 0) c.if-b-eq10.false))
+    omega (arith, room text c.args.part.now i (sym c.has_room.ensures ∙ c.if-not-has_room.false) c.loop-b-test.true, ap length (escaped_other (get_or text i 0) c.if-b-eq10.false))
 
 pub loop-b-preserved : goal.loop-b-preserved
 loop-b-preserved c =
@@ -48,7 +48,7 @@ returns c =
     let some : 0 < length text = omega arith in
     let is : backslashed text ≡ flat_map escaped text = backslashed_is text some in
     let all : take c.loop-b.b-index text ≡ text = take_all c.loop-b.b-index text c.loop-b-test.false in
-    let said : leb (length (backslashed text)) (length page) ≡ true = sym c.has-room.ensures ∙ c.if-not-has-room.false in
+    let said : leb (length (backslashed text)) (length page) ≡ true = sym c.has_room.ensures ∙ c.if-not-has_room.false in
     let fits : length (backslashed text) ≤ length page = leb-true (length (backslashed text)) (length page) said in
     record {
       said = sym said;
