@@ -1,5 +1,5 @@
 -- The table of classes, proved at all of its entries by one test that antt computes. Assumes nothing.
-use Rattle.std.proofs.Common.{◌≡◌, ℕ, ◌<◌, Bool, T, eqb, List, [], ◌∷◌, length, get_or, sym, ap, ◌∙◌, eqb→eq}
+use Rattle.std.proofs.Common.{◌≡◌, ℕ, ◌<◌, Bool, T, eqb, List, [], ◌∷◌, get_or, sym, ap, ◌∙◌, eqb→eq}
 use Rattle.tokens.specs.declared.class.Class.{Class}
 use Rattle.tokens.specs.declared.class.Class.TheVariants as class
 use Rattle.tokens.specs.Bytes.{class_of}

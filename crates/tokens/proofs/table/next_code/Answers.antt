@@ -1,4 +1,4 @@
-use Rattle.std.proofs.Common.{◌≡◌, [], ◌∙◌, ap₂}
+use Rattle.std.proofs.Common.{[], ◌∙◌, ap₂}
 use Rattle.tokens.specs.Table.{longer}
 use Rattle.tokens.proofs.Rule.{entry, rows, right}
 use Rattle.tokens.proofs.table.next_code.Goals as goal
