@@ -20,8 +20,8 @@ decreases-word l = 8 * l.left + 3
 abbrev pub decreases-piece : goal.decreases-piece
 decreases-piece l = 8 * l.left + 2
 
-abbrev pub decreases-double-quotes : goal.decreases-double-quotes
-decreases-double-quotes l = 8 * l.left + 1
+abbrev pub decreases-double_quotes : goal.decreases-double_quotes
+decreases-double_quotes l = 8 * l.left + 1
 
 abbrev pub decreases-substitution : goal.decreases-substitution
 decreases-substitution l = 8 * l.left
