@@ -4,4 +4,4 @@ use Rattle.journal.specs.Calls.{blank}
 use Rattle.journal.proofs.parse.cut.Goals as goal
 
 pub returns : goal.returns
-returns c = split_parts blank c.args.line.now c.split-once.result c.split-once.ensures.cases (search rules)
+returns c = split_parts blank c.args.line.now c.split_once.result c.split_once.ensures.cases (search rules)

@@ -4,7 +4,7 @@ use Rattle.journal.specs.declared.unescape.Place.TheVariants.{Outside}
 use Rattle.journal.specs.Escapes.{ended, unescaped_from, behind}
 use Rattle.journal.proofs.Pieces.{behind_byte, leads, gives, stops, unended}
 use Rattle.journal.proofs.unescape.unescape.Goals as goal
-use Rattle.journal.proofs.unescape.unescape.Goals.{in-Leads, in-Gives+in-ok-push}
+use Rattle.journal.proofs.unescape.unescape.Goals.{in-Leads, in-Gives+in_ok-push}
 
 pub returns-in-Bad : goal.returns-in-Bad
 returns-in-Bad c =
@@ -21,7 +21,7 @@ loop-b-preserved c =
           ap (λ v. behind (vec_items v) (unescaped_from place (drop (i + 1) word))) w.bytes-is
           ∙ ap (λ p. behind before (unescaped_from p (drop (i + 1) word))) w.place-is
           ∙ sym (ap (behind before) (leads c.loop-b.place word i c.loop-b-test.true (sym w.in-Leads.ensures))) ∙ c.loop-b.invariant
-      | in-Gives+in-ok-push w ↦
+      | in-Gives+in_ok-push w ↦
           (let pushed : vec_items c.match-piece.bytes ≡ before ++ (w.in-Gives.byte ∷ []) = search rules in
           ap (λ l. behind l (unescaped_from place (drop (i + 1) word))) pushed
           ∙ ap (λ p. behind (before ++ (w.in-Gives.byte ∷ [])) (unescaped_from p (drop (i + 1) word))) w.place-is

@@ -20,7 +20,7 @@ pub returns-met-in-Ok : goal.returns-met-in-Ok
 returns-met-in-Ok c =
     let t = c.args.template.now in
     let al = (aliases_of c.args.aliases.now).named in
-    c.read-holes.ensures
+    c.read_holes.ensures
     ∙ ap (λ x. holes_of (template_reading al x)) (whole t c.in-Ok.field-0 c.in-Ok.ensures)
     ∙ sym (passed (template_check t) c.in-Ok.field-0 (holes_of (template_reading al t)) c.in-Ok.ensures)
 
@@ -33,7 +33,7 @@ pub returns-masked-in-Ok : goal.returns-masked-in-Ok
 returns-masked-in-Ok c =
     let t = c.args.template.now in
     let al = (aliases_of c.args.aliases.now).named in
-    c.read-holes.ensures
+    c.read_holes.ensures
     ∙ ap (λ x. holes_of (template_reading al x)) (whole t c.in-Ok.field-0 c.in-Ok.ensures)
     ∙ meets placing al shell 64 (template t 0) (length t) [] fresh nowhere 0
     ∙ sym (passed (template_check t) c.in-Ok.field-0 (met al t) c.in-Ok.ensures)

@@ -4,12 +4,12 @@ use Rattle.listing.proofs.list.fill_slots.Goals as goal
 
 pub returns : goal.returns
 returns c =
-    let w = c.write-checked-answer in
+    let w = c.write_checked-answer in
     let nr = length c.args.records.now in
     let nl = length c.args.letters.now in
     let p : length w.new.records ≡ nr = omega arith in
     let q : length w.new.letters ≡ nl = omega arith in
     record {
-      filled = fills nr nl w.new.records w.new.letters p q w.result c.used-slots-used.result _ c.clear.new.slots c.clear-2.new.slots w.ensures c.used-slots-used.ensures c.clear.ensures c.clear-2.ensures;
+      filled = fills nr nl w.new.records w.new.letters p q w.result c.used_slots-used.result _ c.clear.new.slots c.clear-2.new.slots w.ensures c.used_slots-used.ensures c.clear.ensures c.clear-2.ensures;
       within = within nr nl w.new.records w.new.letters p q w.result _ w.ensures;
     }

@@ -9,8 +9,8 @@ returns-in-Ok c =
     let n = c.args.counts.now in
     let rs = c.args.records.now in
     let ls = c.args.letters.now in
-    accepted (held n rs ls) (aliases_of c.args.aliases.now).named c.args.script.now _ _ (free n.records rs) (free n.letters ls) c.fill-slots.new.records c.fill-slots.new.letters _ _
-    (past n.records _ rs c.fill-slots.new.records _ refl (omega arith)) (past n.letters _ ls c.fill-slots.new.letters _ refl (omega arith))
+    accepted (held n rs ls) (aliases_of c.args.aliases.now).named c.args.script.now _ _ (free n.records rs) (free n.letters ls) c.fill_slots.new.records c.fill_slots.new.letters _ _
+    (past n.records _ rs c.fill_slots.new.records _ refl (omega arith)) (past n.letters _ ls c.fill_slots.new.letters _ refl (omega arith))
     c.in-Ok.added _ c.accept.ensures c.in-Ok.ensures.filled
 
 pub returns-in-Err : goal.returns-in-Err
@@ -18,6 +18,6 @@ returns-in-Err c =
     let n = c.args.counts.now in
     let rs = c.args.records.now in
     let ls = c.args.letters.now in
-    refused (held n rs ls) (aliases_of c.args.aliases.now).named c.args.script.now _ _ (free n.records rs) (free n.letters ls) c.fill-slots.new.records c.fill-slots.new.letters _ _
-    (past n.records _ rs c.fill-slots.new.records _ refl (omega arith)) (past n.letters _ ls c.fill-slots.new.letters _ refl (omega arith))
+    refused (held n rs ls) (aliases_of c.args.aliases.now).named c.args.script.now _ _ (free n.records rs) (free n.letters ls) c.fill_slots.new.records c.fill_slots.new.letters _ _
+    (past n.records _ rs c.fill_slots.new.records _ refl (omega arith)) (past n.letters _ ls c.fill_slots.new.letters _ refl (omega arith))
     c.in-Err.e _ c.drop-guard.ensures c.in-Err.ensures.filled

@@ -12,7 +12,7 @@ returns-in-Ok c =
     let al = (aliases_of c.args.aliases.now).named in
     let nr = length c.args.records.now in
     let nl = length c.args.letters.now in
-    c.write-items.ensures
+    c.write_items.ensures
     ∙ ap (λ x. and (on_slots c.args.before nr nl (script_reading al x)) counting) (whole s c.in-Ok.field-0 c.in-Ok.ensures)
     ∙ ap (λ r. and r counting) (sym (passed (script_check s) c.in-Ok.field-0 (on_slots c.args.before nr nl (script_reading al s)) c.in-Ok.ensures))
 

@@ -3,4 +3,4 @@ use Rattle.orders.proofs.Booking.{taken}
 use Rattle.orders.proofs.contents.Contents.load.Goals as goal
 
 pub keep-requires : goal.keep-requires
-keep-requires c = taken (aliases_of c.args.self.now.aliases).named c.args.template.now c.in-ok-holes.holes c.in-ok-holes.ensures
+keep-requires c = taken (aliases_of c.args.self.now.aliases).named c.args.template.now c.in_ok-holes.holes c.in_ok-holes.ensures

@@ -6,12 +6,12 @@ use Rattle.reader.specs.Onto.{sheets}
 use Rattle.reader.specs.Turns.{reads_from}
 use Rattle.reader.proofs.state.Reader.advance.Goals as goal
 
-pub returns-in-err-pass-letters : goal.returns-in-err-pass-letters
-returns-in-err-pass-letters g c =
+pub returns-in_err-pass_letters : goal.returns-in_err-pass_letters
+returns-in_err-pass_letters g c =
     let W = sheets g.W.Sink.written g.W.Sink.placed g.W.Sink.filled g.W.Sink.word in
     let i = state_of c.args.self.now.at in
     let s = g.W.Sink.sheet c.args.out.now in
-    let a = c.in-err-pass-letters.ensures in
+    let a = c.in_err-pass_letters.ensures in
     let f = err_from_is_err_and c.from-residual.result c.from-residual.ensures.1 in
     record {
       goes = rw (f.1, f.2) (a.goes ∙ ap (λ (e : Bool). reads_from W g.S.Source.coming g.S.Source.end c.args.source.now (record { escape = e; at = i }) s) (sym c.if-self.false));
@@ -23,12 +23,12 @@ returns-then-branch g c =
     let W = sheets g.W.Sink.written g.W.Sink.placed g.W.Sink.filled g.W.Sink.word in
     let i = state_of c.args.self.now.at in
     let s = g.W.Sink.sheet c.args.out.now in
-    let j = state_of c.pass-letters.new.self in
-    let t = g.W.Sink.sheet c.pass-letters.new.out in
-    let a = c.in-ok-pass-letters.ensures in
-    let yes : ◌≡◌ {A = Result Bool Refusal} (Ok c.in-ok-pass-letters.field-0) (Ok true) = ap (λ (b : Bool). Ok b) c.if-branch.true in
+    let j = state_of c.pass_letters.new.self in
+    let t = g.W.Sink.sheet c.pass_letters.new.out in
+    let a = c.in_ok-pass_letters.ensures in
+    let yes : ◌≡◌ {A = Result Bool Refusal} (Ok c.in_ok-pass_letters.field-0) (Ok true) = ap (λ (b : Bool). Ok b) c.if-branch.true in
     record {
-      goes = ap (λ (e : Bool). reads_from W g.S.Source.coming g.S.Source.end c.pass-letters.new.source (record { escape = e; at = j }) t) c.if-self.false
+      goes = ap (λ (e : Bool). reads_from W g.S.Source.coming g.S.Source.end c.pass_letters.new.source (record { escape = e; at = j }) t) c.if-self.false
           ∙ a.goes
           ∙ ap (λ (e : Bool). reads_from W g.S.Source.coming g.S.Source.end c.args.source.now (record { escape = e; at = i }) s) (sym c.if-self.false);
       falls = λ h. a.fewer yes;
@@ -39,12 +39,12 @@ returns g c =
     let W = sheets g.W.Sink.written g.W.Sink.placed g.W.Sink.filled g.W.Sink.word in
     let i = state_of c.args.self.now.at in
     let s = g.W.Sink.sheet c.args.out.now in
-    let j = state_of c.pass-letters.new.self in
-    let t = g.W.Sink.sheet c.pass-letters.new.out in
-    let a = c.in-ok-pass-letters.ensures in
+    let j = state_of c.pass_letters.new.self in
+    let t = g.W.Sink.sheet c.pass_letters.new.out in
+    let a = c.in_ok-pass_letters.ensures in
     record {
       goes = c.turn-2.ensures.goes
-          ∙ ap (λ (e : Bool). reads_from W g.S.Source.coming g.S.Source.end c.pass-letters.new.source (record { escape = e; at = j }) t) c.if-self.false
+          ∙ ap (λ (e : Bool). reads_from W g.S.Source.coming g.S.Source.end c.pass_letters.new.source (record { escape = e; at = j }) t) c.if-self.false
           ∙ a.goes
           ∙ ap (λ (e : Bool). reads_from W g.S.Source.coming g.S.Source.end c.args.source.now (record { escape = e; at = i }) s) (sym c.if-self.false);
       falls = λ h. omega (arith, c.turn-2.ensures.falls h, a.falls);

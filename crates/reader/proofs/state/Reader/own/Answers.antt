@@ -14,8 +14,8 @@ use Rattle.reader.specs.Turns.{goes_on}
 use Rattle.reader.proofs.Turning.{own_at_end, own_at_symbol, fewer, named_after, same_reading}
 use Rattle.reader.proofs.state.Reader.own.Goals as goal
 
-pub returns-in-ok-end : goal.returns-in-ok-end
-returns-in-ok-end g c =
+pub returns-in_ok-end-in-None : goal.returns-in_ok-end-in-None
+returns-in_ok-end-in-None g c =
     let W = sheets g.W.Sink.written g.W.Sink.placed g.W.Sink.filled g.W.Sink.word in
     let p = c.args.source.now in
     let k = control_of c.args.self.now in
@@ -23,13 +23,13 @@ returns-in-ok-end g c =
     let e = g.S.Source.end p.below in
     record {
       goes = sym (own_at_end W (aliases_of p.table.now).named e p.left (coming_of g.S.Source.coming p) (open_names p) k s (sym c.in-None.is ∙ c.requires)
-          ∙ ap (λ (n : ℕ). and (lays_move g.W.Sink.written g.W.Sink.placed n (end k) s) (λ h. Ok h.sheet)) (sym c.end-place.ensures)
-          ∙ ap (λ (a : Result (Held Control g.W.Sink.Sheet) Refusal). and a (λ h. Ok h.sheet)) (sym c.in-ok-end.ensures));
+          ∙ ap (λ (n : ℕ). and (lays_move g.W.Sink.written g.W.Sink.placed n (end k) s) (λ h. Ok h.sheet)) (sym c.end_place.ensures)
+          ∙ ap (λ (a : Result (Held Control g.W.Sink.Sheet) Refusal). and a (λ h. Ok h.sheet)) (sym c.in_ok-end.ensures));
       falls = λ q. let z : ◌≡◌ {A = ℕ} 0 1 = cc in absurd (omega arith);
     }
 
-pub returns-in-ok-step : goal.returns-in-ok-step
-returns-in-ok-step g c =
+pub returns-in_ok-step-in-Some : goal.returns-in_ok-step-in-Some
+returns-in_ok-step-in-Some g c =
     let W = sheets g.W.Sink.written g.W.Sink.placed g.W.Sink.filled g.W.Sink.word in
     let p = c.args.source.now in
     let k = control_of c.args.self.now in
@@ -43,29 +43,29 @@ returns-in-ok-step g c =
     record {
       goes = same_reading W (control_of c.step.new.self) (g.W.Sink.sheet c.step.new.out) c.take.ensures.table c.take.ensures.end c.take.ensures.left c.take.ensures.coming (c.take.ensures.names ∙ named_after ss ns x is)
           ∙ sym (own_at_symbol W al e p.left ss ns k s x is
-          ∙ ap (λ (a : Result (Held Control g.W.Sink.Sheet) Refusal). and a (λ h. read_on W al e p.left (rest ss) (names_after x.sign ns) h.at h.sheet)) (sym c.in-ok-step.ensures));
+          ∙ ap (λ (a : Result (Held Control g.W.Sink.Sheet) Refusal). and a (λ h. read_on W al e p.left (rest ss) (names_after x.sign ns) h.at h.sheet)) (sym c.in_ok-step.ensures));
       falls = λ q. omega (arith, fewer p.left ss x is, c.take.ensures.left, ap length c.take.ensures.coming);
     }
 
-pub returns-in-err-end : goal.returns-in-err-end
-returns-in-err-end g c =
+pub returns-in_err-end-in-None : goal.returns-in_err-end-in-None
+returns-in_err-end-in-None g c =
     let W = sheets g.W.Sink.written g.W.Sink.placed g.W.Sink.filled g.W.Sink.word in
     let p = c.args.source.now in
     let k = control_of c.args.self.now in
     let s = g.W.Sink.sheet c.args.out.now in
     let e = g.S.Source.end p.below in
     let f = err_from_is_err_and c.from-residual.result c.from-residual.ensures.1 in
-    let r : c.from-residual.result ≡ Err c.in-err-end.field-0.0 = rw (f.1, f.2) in
+    let r : c.from-residual.result ≡ Err c.in_err-end.field-0.0 = rw (f.1, f.2) in
     record {
       goes = rw (f.1, f.2)
           (sym (own_at_end W (aliases_of p.table.now).named e p.left (coming_of g.S.Source.coming p) (open_names p) k s (sym c.in-None.is ∙ c.requires)
-          ∙ ap (λ (n : ℕ). and (lays_move g.W.Sink.written g.W.Sink.placed n (end k) s) (λ h. Ok h.sheet)) (sym c.end-place.ensures)
-          ∙ ap (λ (a : Result (Held Control g.W.Sink.Sheet) Refusal). and a (λ h. Ok h.sheet)) (sym c.in-err-end.ensures)));
+          ∙ ap (λ (n : ℕ). and (lays_move g.W.Sink.written g.W.Sink.placed n (end k) s) (λ h. Ok h.sheet)) (sym c.end_place.ensures)
+          ∙ ap (λ (a : Result (Held Control g.W.Sink.Sheet) Refusal). and a (λ h. Ok h.sheet)) (sym c.in_err-end.ensures)));
       falls = λ q. let z : ◌≡◌ {A = ℕ} 0 1 = cc in absurd (omega arith);
     }
 
-pub returns-in-err-step : goal.returns-in-err-step
-returns-in-err-step g c =
+pub returns-in_err-step-in-Some : goal.returns-in_err-step-in-Some
+returns-in_err-step-in-Some g c =
     let W = sheets g.W.Sink.written g.W.Sink.placed g.W.Sink.filled g.W.Sink.word in
     let p = c.args.source.now in
     let k = control_of c.args.self.now in
@@ -75,11 +75,11 @@ returns-in-err-step g c =
     let ss = coming_of g.S.Source.coming p in
     let ns = open_names p in
     let x = c.in-Some.s in
-    let f = err_from_is_err_and c.from-residual-in-err-step.result c.from-residual-in-err-step.ensures.1 in
-    let r : c.from-residual-in-err-step.result ≡ Err c.in-err-step.field-0.0 = rw (f.1, f.2) in
+    let f = err_from_is_err_and c.from-residual-in_err-step.result c.from-residual-in_err-step.ensures.1 in
+    let r : c.from-residual-in_err-step.result ≡ Err c.in_err-step.field-0.0 = rw (f.1, f.2) in
     record {
       goes = rw (f.1, f.2)
           (sym (own_at_symbol W al e p.left ss ns k s x (sym c.in-Some.is ∙ c.requires)
-          ∙ ap (λ (a : Result (Held Control g.W.Sink.Sheet) Refusal). and a (λ h. read_on W al e p.left (rest ss) (names_after x.sign ns) h.at h.sheet)) (sym c.in-err-step.ensures)));
+          ∙ ap (λ (a : Result (Held Control g.W.Sink.Sheet) Refusal). and a (λ h. read_on W al e p.left (rest ss) (names_after x.sign ns) h.at h.sheet)) (sym c.in_err-step.ensures)));
       falls = λ q. let z : ◌≡◌ {A = ℕ} 0 1 = cc in absurd (omega arith);
     }

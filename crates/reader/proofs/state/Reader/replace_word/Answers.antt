@@ -28,27 +28,27 @@ returns g c =
     let o = stands_for al ns w in
     let cand : candidate_next (first ss) k ≡ true = ap (λ x. candidate_next x k) (sym c.requires.0) ∙ c.requires.1 in
     let text : c.text.result.now ≡ w = c.text.ensures in
-    let there : c.word-place-word-place.result ≡ W.word s = c.word-place-word-place.ensures in
-    let place : c.place-before-place.result ≡ place_next e (first ss) = c.place-before-place.ensures ∙ (λ i. place_next (c.end-place.ensures i) (c.requires.0 i)) in
+    let there : c.word_place-word_place.result ≡ W.word s = c.word_place-word_place.ensures in
+    let place : c.place_before-place.result ≡ place_next e (first ss) = c.place_before-place.ensures ∙ (λ i. place_next (c.end_place.ensures i) (c.requires.0 i)) in
     let said : Ok true ≡ replace_answer o p.left (W.word s) =
-    ap (λ (b : Bool). Ok b) (sym c.if-not-branch.false) ∙ c.in-ok-replace.ensures.said ∙ (λ i. replace_answer (stands_for al ns (text i)) p.left (there i)) in
+    ap (λ (b : Bool). Ok b) (sym c.if-not-branch.false) ∙ c.in_ok-replace.ensures.said ∙ (λ i. replace_answer (stands_for al ns (text i)) p.left (there i)) in
     let t = g.W.Sink.sheet c.put.new.self in
-    let put : Ok t ≡ W.written act.Forget (place_next e (first ss)) s = c.in-ok-put.ensures ∙ ap (λ n. W.written act.Forget n s) place in
-    let a = c.in-ok-replace.ensures in
+    let put : Ok t ≡ W.written act.Forget (place_next e (first ss)) s = c.in_ok-put.ensures ∙ ap (λ n. W.written act.Forget n s) place in
+    let a = c.in_ok-replace.ensures in
     let coming = a.coming ∙ (λ i. replaced_coming (stands_for al ns (text i)) p.left (there i) ss) in
     let left = a.left ∙ (λ i. replaced_left (stands_for al ns (text i)) p.left) in
     let names = a.names ∙ (λ i. replaced_names (stands_for al ns (text i)) p.left (text i) ns) in
     record {
-      goes = same_reading W (control_of c.drop-word.new.self) t a.table a.end left coming names
-          ∙ ap (λ (d : Control). read_on W al e (replaced_left o p.left) (replaced_coming o p.left (W.word s) ss) (replaced_names o p.left w ns) d t) c.drop-word.ensures
+      goes = same_reading W (control_of c.drop_word.new.self) t a.table a.end left coming names
+          ∙ ap (λ (d : Control). read_on W al e (replaced_left o p.left) (replaced_coming o p.left (W.word s) ss) (replaced_names o p.left w ns) d t) c.drop_word.ensures
           ∙ replaced_goes W al e ss ns k s cand o p.left t refl said put;
       falls = λ q. omega (arith, fewer_replaced o p.left (W.word s) ss said (λ v. short_value p.table.now ns w v), left, ap length coming);
       stays = λ q. let z : ◌≡◌ {A = ℕ} 0 1 = cc in absurd (omega arith);
       left = λ q. let z : ◌≡◌ {A = ℕ} 0 1 = cc in absurd (omega arith);
     }
 
-pub returns-in-err-put : goal.returns-in-err-put
-returns-in-err-put g c =
+pub returns-in_err-put : goal.returns-in_err-put
+returns-in_err-put g c =
     let W = sheets g.W.Sink.written g.W.Sink.placed g.W.Sink.filled g.W.Sink.word in
     let p = c.args.source.now in
     let k = control_of c.args.self.now in
@@ -61,22 +61,22 @@ returns-in-err-put g c =
     let o = stands_for al ns w in
     let cand : candidate_next (first ss) k ≡ true = ap (λ x. candidate_next x k) (sym c.requires.0) ∙ c.requires.1 in
     let text : c.text.result.now ≡ w = c.text.ensures in
-    let there : c.word-place-word-place.result ≡ W.word s = c.word-place-word-place.ensures in
-    let place : c.place-before-place.result ≡ place_next e (first ss) = c.place-before-place.ensures ∙ (λ i. place_next (c.end-place.ensures i) (c.requires.0 i)) in
+    let there : c.word_place-word_place.result ≡ W.word s = c.word_place-word_place.ensures in
+    let place : c.place_before-place.result ≡ place_next e (first ss) = c.place_before-place.ensures ∙ (λ i. place_next (c.end_place.ensures i) (c.requires.0 i)) in
     let said : Ok true ≡ replace_answer o p.left (W.word s) =
-    ap (λ (b : Bool). Ok b) (sym c.if-not-branch.false) ∙ c.in-ok-replace.ensures.said ∙ (λ i. replace_answer (stands_for al ns (text i)) p.left (there i)) in
-    let f = err_from_is_err_and c.from-residual-in-err-put.result c.from-residual-in-err-put.ensures.1 in
-    let r : c.from-residual-in-err-put.result ≡ Err c.in-err-put.field-0.0 = rw (f.1, f.2) in
-    let put : Err c.in-err-put.field-0.0 ≡ W.written act.Forget (place_next e (first ss)) s = c.in-err-put.ensures ∙ ap (λ n. W.written act.Forget n s) place in
+    ap (λ (b : Bool). Ok b) (sym c.if-not-branch.false) ∙ c.in_ok-replace.ensures.said ∙ (λ i. replace_answer (stands_for al ns (text i)) p.left (there i)) in
+    let f = err_from_is_err_and c.from-residual-in_err-put.result c.from-residual-in_err-put.ensures.1 in
+    let r : c.from-residual-in_err-put.result ≡ Err c.in_err-put.field-0.0 = rw (f.1, f.2) in
+    let put : Err c.in_err-put.field-0.0 ≡ W.written act.Forget (place_next e (first ss)) s = c.in_err-put.ensures ∙ ap (λ n. W.written act.Forget n s) place in
     record {
-      goes = rw (f.1, f.2) (replaced_refused W al e ss ns k s cand o p.left c.in-err-put.field-0.0 refl said put);
+      goes = rw (f.1, f.2) (replaced_refused W al e ss ns k s cand o p.left c.in_err-put.field-0.0 refl said put);
       falls = λ q. let z : ◌≡◌ {A = ℕ} 0 1 = cc in absurd (omega arith);
       stays = λ q. let z : ◌≡◌ {A = ℕ} 0 1 = cc in absurd (omega arith);
       left = λ q. let z : ◌≡◌ {A = ℕ} 0 1 = cc in absurd (omega arith);
     }
 
-pub returns-in-err-replace : goal.returns-in-err-replace
-returns-in-err-replace g c =
+pub returns-in_err-replace : goal.returns-in_err-replace
+returns-in_err-replace g c =
     let W = sheets g.W.Sink.written g.W.Sink.placed g.W.Sink.filled g.W.Sink.word in
     let p = c.args.source.now in
     let k = control_of c.args.self.now in
@@ -89,13 +89,13 @@ returns-in-err-replace g c =
     let o = stands_for al ns w in
     let cand : candidate_next (first ss) k ≡ true = ap (λ x. candidate_next x k) (sym c.requires.0) ∙ c.requires.1 in
     let text : c.text.result.now ≡ w = c.text.ensures in
-    let there : c.word-place-word-place.result ≡ W.word s = c.word-place-word-place.ensures in
+    let there : c.word_place-word_place.result ≡ W.word s = c.word_place-word_place.ensures in
     let f = err_from_is_err_and c.from-residual.result c.from-residual.ensures.1 in
-    let r : c.from-residual.result ≡ Err c.in-err-replace.field-0.0 = rw (f.1, f.2) in
-    let said : Err c.in-err-replace.field-0.0 ≡ replace_answer o p.left (W.word s) =
-    c.in-err-replace.ensures.said ∙ (λ i. replace_answer (stands_for al ns (text i)) p.left (there i)) in
+    let r : c.from-residual.result ≡ Err c.in_err-replace.field-0.0 = rw (f.1, f.2) in
+    let said : Err c.in_err-replace.field-0.0 ≡ replace_answer o p.left (W.word s) =
+    c.in_err-replace.ensures.said ∙ (λ i. replace_answer (stands_for al ns (text i)) p.left (there i)) in
     record {
-      goes = rw (f.1, f.2) (too_many W al e ss ns k s cand o p.left c.in-err-replace.field-0.0 refl said);
+      goes = rw (f.1, f.2) (too_many W al e ss ns k s cand o p.left c.in_err-replace.field-0.0 refl said);
       falls = λ q. let z : ◌≡◌ {A = ℕ} 0 1 = cc in absurd (omega arith);
       stays = λ q. let z : ◌≡◌ {A = ℕ} 0 1 = cc in absurd (omega arith);
       left = λ q. let z : ◌≡◌ {A = ℕ} 0 1 = cc in absurd (omega arith);
@@ -115,11 +115,11 @@ returns-then-not-branch g c =
     let o = stands_for al ns w in
     let cand : candidate_next (first ss) k ≡ true = ap (λ x. candidate_next x k) (sym c.requires.0) ∙ c.requires.1 in
     let text : c.text.result.now ≡ w = c.text.ensures in
-    let there : c.word-place-word-place.result ≡ W.word s = c.word-place-word-place.ensures in
+    let there : c.word_place-word_place.result ≡ W.word s = c.word_place-word_place.ensures in
     let said : Ok false ≡ replace_answer o p.left (W.word s) =
-    ap (λ (b : Bool). Ok b) (sym c.if-not-branch.true) ∙ c.in-ok-replace.ensures.said ∙ (λ i. replace_answer (stands_for al ns (text i)) p.left (there i)) in
+    ap (λ (b : Bool). Ok b) (sym c.if-not-branch.true) ∙ c.in_ok-replace.ensures.said ∙ (λ i. replace_answer (stands_for al ns (text i)) p.left (there i)) in
     let none = not_replaced o p.left (W.word s) said in
-    let a = c.in-ok-replace.ensures in
+    let a = c.in_ok-replace.ensures in
     let coming = a.coming ∙ (λ i. replaced_coming (stands_for al ns (text i)) p.left (there i) ss) ∙ ap (λ x. replaced_coming x p.left (W.word s) ss) none in
     let left = a.left ∙ (λ i. replaced_left (stands_for al ns (text i)) p.left) ∙ ap (λ x. replaced_left x p.left) none in
     let names = a.names ∙ (λ i. replaced_names (stands_for al ns (text i)) p.left (text i) ns) ∙ ap (λ x. replaced_names x p.left w ns) none in

@@ -11,14 +11,14 @@ use Rattle.reader.specs.Turns.{candidate_next, goes_replaced, own_from, reads_fr
 use Rattle.reader.proofs.Turning.{no_word}
 use Rattle.reader.proofs.state.Reader.turn.Goals as goal
 
-pub returns-then-not-may-be-replaced-before : goal.returns-then-not-may-be-replaced-before
-returns-then-not-may-be-replaced-before g c =
+pub returns-then-not-may_be_replaced_before : goal.returns-then-not-may_be_replaced_before
+returns-then-not-may_be_replaced_before g c =
     let W = sheets g.W.Sink.written g.W.Sink.placed g.W.Sink.filled g.W.Sink.word in
     let p = c.args.source.now in
     let k = control_of c.args.self.now in
     let s = g.W.Sink.sheet c.args.out.now in
     let ss = coming_of g.S.Source.coming p in
-    let no : candidate_next (first ss) k ≡ false = ap (λ x. candidate_next x k) (sym c.look-next.ensures) ∙ sym c.may-be-replaced-before.ensures ∙ c.if-not-may-be-replaced-before.true in
+    let no : candidate_next (first ss) k ≡ false = ap (λ x. candidate_next x k) (sym c.look-next.ensures) ∙ sym c.may_be_replaced_before.ensures ∙ c.if-not-may_be_replaced_before.true in
     record {
       goes = c.own.ensures.goes ∙ sym (no_word W (aliases_of p.table.now).named (g.S.Source.end p.below) p.left ss (open_names p) k s no);
       falls = c.own.ensures.falls;
@@ -30,11 +30,11 @@ returns g c =
     let p = c.args.source.now in
     let k = control_of c.args.self.now in
     let s = g.W.Sink.sheet c.args.out.now in
-    let q = c.replace-word.new.source in
-    let j = control_of c.replace-word.new.self in
-    let t = g.W.Sink.sheet c.replace-word.new.out in
-    let a = c.in-ok-replace-word.ensures in
-    let no : ◌≡◌ {A = Result Bool Refusal} (Ok c.in-ok-replace-word.field-0) (Ok false) = ap (λ (b : Bool). Ok b) c.if-branch.false in
+    let q = c.replace_word.new.source in
+    let j = control_of c.replace_word.new.self in
+    let t = g.W.Sink.sheet c.replace_word.new.out in
+    let a = c.in_ok-replace_word.ensures in
+    let no : ◌≡◌ {A = Result Bool Refusal} (Ok c.in_ok-replace_word.field-0) (Ok false) = ap (λ (b : Bool). Ok b) c.if-branch.false in
     record {
       goes = c.own-2.ensures.goes
           ∙ ap (λ (r : Result Bool Refusal). goes_replaced r (reads_from W g.S.Source.coming g.S.Source.end q j t) (own_from W g.S.Source.coming g.S.Source.end q j t)) (sym no)

@@ -16,8 +16,8 @@ use Rattle.reader.proofs.Turning.{fewer, named_after, same_reading}
 use Rattle.reader.proofs.Passing.{own_no_word, own_moves, letter_went, letter_refused}
 use Rattle.reader.proofs.state.State.command_byte.Goals as goal
 
-pub returns-in-err-in-command : goal.returns-in-err-in-command
-returns-in-err-in-command g c =
+pub returns-in_err-in_command : goal.returns-in_err-in_command
+returns-in_err-in_command g c =
     let W = sheets g.W.Sink.written g.W.Sink.placed g.W.Sink.filled g.W.Sink.word in
     let p = c.args.source.now in
     let i = state_of c.args.self.now in
@@ -29,13 +29,13 @@ returns-in-err-in-command g c =
     let b = c.args.b in
     let q = c.args.place in
     let is : Some (symbol (Byte b) q) ≡ first ss = c.requires.1 in
-    let l : is_own_work (class_of b) i ≡ true = ap (λ (k : Class). is_own_work k i) (sym c.class-of-class.ensures) ∙ sym c.is-own-work.ensures ∙ c.if-not-is-own-work.false in
+    let l : is_own_work (class_of b) i ≡ true = ap (λ (k : Class). is_own_work k i) (sym c.class_of-class.ensures) ∙ sym c.is_own_work.ensures ∙ c.if-not-is_own_work.false in
     let x = in_command (class_of b) b i in
-    let at-class = ap (λ (k : Class). lays g.W.Sink.written g.W.Sink.placed q (in_command k b i) s) c.class-of-class.ensures in
+    let at-class = ap (λ (k : Class). lays g.W.Sink.written g.W.Sink.placed q (in_command k b i) s) c.class_of-class.ensures in
     let f = err_from_is_err_and c.from-residual.result c.from-residual.ensures.1 in
-    let r : c.from-residual.result ≡ Err c.in-err-in-command.field-0.0 = rw (f.1, f.2) in
+    let r : c.from-residual.result ≡ Err c.in_err-in_command.field-0.0 = rw (f.1, f.2) in
     record {
-      goes = rw (f.1, f.2) (letter_refused W al e p.left ss ns i s b q x is (own_no_word b i l) (own_moves g.W.Sink.written g.W.Sink.placed q s b i c.requires.0 l) c.in-err-in-command.field-0.0 (c.in-err-in-command.ensures ∙ at-class));
+      goes = rw (f.1, f.2) (letter_refused W al e p.left ss ns i s b q x is (own_no_word b i l) (own_moves g.W.Sink.written g.W.Sink.placed q s b i c.requires.0 l) c.in_err-in_command.field-0.0 (c.in_err-in_command.ensures ∙ at-class));
       falls = omega arith;
       fewer = λ z. let n : ◌≡◌ {A = ℕ} 0 1 = cc in absurd (omega arith);
     }
@@ -53,15 +53,15 @@ returns g c =
     let b = c.args.b in
     let q = c.args.place in
     let is : Some (symbol (Byte b) q) ≡ first ss = c.requires.1 in
-    let l : is_own_work (class_of b) i ≡ true = ap (λ (k : Class). is_own_work k i) (sym c.class-of-class.ensures) ∙ sym c.is-own-work.ensures ∙ c.if-not-is-own-work.false in
+    let l : is_own_work (class_of b) i ≡ true = ap (λ (k : Class). is_own_work k i) (sym c.class_of-class.ensures) ∙ sym c.is_own_work.ensures ∙ c.if-not-is_own_work.false in
     let x = in_command (class_of b) b i in
-    let at-class = ap (λ (k : Class). lays g.W.Sink.written g.W.Sink.placed q (in_command k b i) s) c.class-of-class.ensures in
-    let j = state_of c.in-command.new.self in
-    let t = g.W.Sink.sheet c.in-command.new.out in
+    let at-class = ap (λ (k : Class). lays g.W.Sink.written g.W.Sink.placed q (in_command k b i) s) c.class_of-class.ensures in
+    let j = state_of c.in_command.new.self in
+    let t = g.W.Sink.sheet c.in_command.new.out in
     let less = fewer p.left ss (symbol (Byte b) q) is in
     record {
       goes = same_reading W (calm j) t c.take.ensures.table c.take.ensures.end c.take.ensures.left c.take.ensures.coming (c.take.ensures.names ∙ named_after ss ns (symbol (Byte b) q) is)
-          ∙ letter_went W al e p.left ss ns i s b q x is (own_no_word b i l) (own_moves g.W.Sink.written g.W.Sink.placed q s b i c.requires.0 l) j t (c.in-ok-in-command.ensures ∙ at-class);
+          ∙ letter_went W al e p.left ss ns i s b q x is (own_no_word b i l) (own_moves g.W.Sink.written g.W.Sink.placed q s b i c.requires.0 l) j t (c.in_ok-in_command.ensures ∙ at-class);
       falls = omega (arith, less, c.take.ensures.left, ap length c.take.ensures.coming);
       fewer = λ z. omega (arith, less, c.take.ensures.left, ap length c.take.ensures.coming);
     }

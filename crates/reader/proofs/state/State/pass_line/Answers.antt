@@ -20,8 +20,8 @@ use Rattle.reader.proofs.Turning.{fewer, named_after, same_reading}
 use Rattle.reader.proofs.Passing.{body_no_word, body_moves, no_other, letter_went, letter_refused}
 use Rattle.reader.proofs.state.State.pass_line.Goals as goal
 
-pub returns-in-err-body-here : goal.returns-in-err-body-here
-returns-in-err-body-here g c =
+pub returns-in_err-body_here : goal.returns-in_err-body_here
+returns-in_err-body_here g c =
     let W = sheets g.W.Sink.written g.W.Sink.placed g.W.Sink.filled g.W.Sink.word in
     let p = c.loop-s.source in
     let i = state_of c.loop-s.self in
@@ -35,11 +35,11 @@ returns-in-err-body-here g c =
     let is : Some (symbol (Byte b) q) ≡ first ss = ap (λ (g : Sign). Some (symbol g q)) (sym c.in-Byte.is) ∙ c.in-Some.ensures in
     let l : eqb b newline ≡ false = no_other b newline c.if-b-eq10.false in
     let x = does (Letter (marked mark.Body b)) (done (set_word (in_mode (mode.Body c.args.n line.Other)) i)) in
-    let a = c.in-err-body-here.ensures in
+    let a = c.in_err-body_here.ensures in
     let f = err_from_is_err_and c.from-residual.result c.from-residual.ensures.1 in
-    let r : c.from-residual.result ≡ Err c.in-err-body-here.field-0.0 = rw (f.1, f.2) in
+    let r : c.from-residual.result ≡ Err c.in_err-body_here.field-0.0 = rw (f.1, f.2) in
     record {
-      goes = rw (f.1, f.2) (letter_refused W al e p.left ss ns i s b q x is (body_no_word b i c.args.n c.loop-s.invariant.0) (body_moves g.W.Sink.written g.W.Sink.placed q s b i c.args.n c.loop-s.invariant.0 l) c.in-err-body-here.field-0.0 a.lays ∙ c.loop-s.invariant.1);
+      goes = rw (f.1, f.2) (letter_refused W al e p.left ss ns i s b q x is (body_no_word b i c.args.n c.loop-s.invariant.0) (body_moves g.W.Sink.written g.W.Sink.placed q s b i c.args.n c.loop-s.invariant.0 l) c.in_err-body_here.field-0.0 a.lays ∙ c.loop-s.invariant.1);
       falls = c.loop-s.invariant.2;
       fewer = λ z. let n : ◌≡◌ {A = ℕ} 0 1 = cc in absurd (omega arith);
     }
@@ -59,9 +59,9 @@ loop-s-preserved g c =
     let is : Some (symbol (Byte b) q) ≡ first ss = ap (λ (g : Sign). Some (symbol g q)) (sym c.in-Byte.is) ∙ c.in-Some.ensures in
     let l : eqb b newline ≡ false = no_other b newline c.if-b-eq10.false in
     let x = does (Letter (marked mark.Body b)) (done (set_word (in_mode (mode.Body c.args.n line.Other)) i)) in
-    let a = c.in-ok-body-here.ensures in
-    let j = state_of c.body-here.new.self in
-    let t = g.W.Sink.sheet c.body-here.new.out in (
+    let a = c.in_ok-body_here.ensures in
+    let j = state_of c.body_here.new.self in
+    let t = g.W.Sink.sheet c.body_here.new.out in (
       a.run,
       same_reading W (calm j) t c.take.ensures.table c.take.ensures.end c.take.ensures.left c.take.ensures.coming (c.take.ensures.names ∙ named_after ss ns (symbol (Byte b) q) is)
           ∙ letter_went W al e p.left ss ns i s b q x is (body_no_word b i c.args.n c.loop-s.invariant.0) (body_moves g.W.Sink.written g.W.Sink.placed q s b i c.args.n c.loop-s.invariant.0 l) j t a.lays ∙ c.loop-s.invariant.1,

@@ -15,8 +15,8 @@ use Rattle.reader.proofs.Turning.{fewer, named_after, same_reading}
 use Rattle.reader.proofs.Passing.{quoted_no_word, quoted_moves, letter_went, letter_refused}
 use Rattle.reader.proofs.state.State.pass_quoted.Goals as goal
 
-pub returns-in-err-quoted-here : goal.returns-in-err-quoted-here
-returns-in-err-quoted-here g c =
+pub returns-in_err-quoted_here : goal.returns-in_err-quoted_here
+returns-in_err-quoted_here g c =
     let W = sheets g.W.Sink.written g.W.Sink.placed g.W.Sink.filled g.W.Sink.word in
     let p = c.loop-s.source in
     let i = state_of c.loop-s.self in
@@ -28,13 +28,13 @@ returns-in-err-quoted-here g c =
     let b = c.in-Byte.b in
     let q = c.in-Some.s.place in
     let is : Some (symbol (Byte b) q) ≡ first ss = ap (λ (g : Sign). Some (symbol g q)) (sym c.in-Byte.is) ∙ c.in-Some.ensures in
-    let l : is_quoted_letter c.args.double b ≡ true = sym c.is-quoted-letter.ensures ∙ c.if-not-is-quoted-letter.false in
+    let l : is_quoted_letter c.args.double b ≡ true = sym c.is_quoted_letter.ensures ∙ c.if-not-is_quoted_letter.false in
     let x = quoted b WordHere i in
-    let a = c.in-err-quoted-here.ensures in
+    let a = c.in_err-quoted_here.ensures in
     let f = err_from_is_err_and c.from-residual.result c.from-residual.ensures.1 in
-    let r : c.from-residual.result ≡ Err c.in-err-quoted-here.field-0.0 = rw (f.1, f.2) in
+    let r : c.from-residual.result ≡ Err c.in_err-quoted_here.field-0.0 = rw (f.1, f.2) in
     record {
-      goes = rw (f.1, f.2) (letter_refused W al e p.left ss ns i s b q x is (quoted_no_word b i c.args.double c.loop-s.invariant.0) (quoted_moves g.W.Sink.written g.W.Sink.placed q s b i c.args.double c.loop-s.invariant.0 l) c.in-err-quoted-here.field-0.0 a.lays ∙ c.loop-s.invariant.1);
+      goes = rw (f.1, f.2) (letter_refused W al e p.left ss ns i s b q x is (quoted_no_word b i c.args.double c.loop-s.invariant.0) (quoted_moves g.W.Sink.written g.W.Sink.placed q s b i c.args.double c.loop-s.invariant.0 l) c.in_err-quoted_here.field-0.0 a.lays ∙ c.loop-s.invariant.1);
       falls = c.loop-s.invariant.2;
       fewer = λ z. let n : ◌≡◌ {A = ℕ} 0 1 = cc in absurd (omega arith);
     }
@@ -52,11 +52,11 @@ loop-s-preserved g c =
     let b = c.in-Byte.b in
     let q = c.in-Some.s.place in
     let is : Some (symbol (Byte b) q) ≡ first ss = ap (λ (g : Sign). Some (symbol g q)) (sym c.in-Byte.is) ∙ c.in-Some.ensures in
-    let l : is_quoted_letter c.args.double b ≡ true = sym c.is-quoted-letter.ensures ∙ c.if-not-is-quoted-letter.false in
+    let l : is_quoted_letter c.args.double b ≡ true = sym c.is_quoted_letter.ensures ∙ c.if-not-is_quoted_letter.false in
     let x = quoted b WordHere i in
-    let a = c.in-ok-quoted-here.ensures in
-    let j = state_of c.quoted-here.new.self in
-    let t = g.W.Sink.sheet c.quoted-here.new.out in (
+    let a = c.in_ok-quoted_here.ensures in
+    let j = state_of c.quoted_here.new.self in
+    let t = g.W.Sink.sheet c.quoted_here.new.out in (
       a.run,
       same_reading W (calm j) t c.take.ensures.table c.take.ensures.end c.take.ensures.left c.take.ensures.coming (c.take.ensures.names ∙ named_after ss ns (symbol (Byte b) q) is)
           ∙ letter_went W al e p.left ss ns i s b q x is (quoted_no_word b i c.args.double c.loop-s.invariant.0) (quoted_moves g.W.Sink.written g.W.Sink.placed q s b i c.args.double c.loop-s.invariant.0 l) j t a.lays ∙ c.loop-s.invariant.1,
