@@ -17,7 +17,7 @@ no_entry = record { alias = 0; offset = 0; place = 0 }
 pub returns-then-eq : goal.returns-then-eq
 returns-then-eq g c =
     let p = c.args.self.now in
-    let same = sym c.name-at.ensures ∙ (slice_eq-Decides Decides-eqb _ _ _ c.eq.ensures).0 c.if-eq.true in
+    let same = sym c.name_at.ensures ∙ (slice_eq-Decides Decides-eqb _ _ _ c.eq.ensures).0 c.if-eq.true in
     found (rows p.table.now) p.held c.loop-i.i c.args.name.now no_entry (omega arith) same ∙ c.loop-i.invariant
 
 pub loop-i-preserved : goal.loop-i-preserved
@@ -25,7 +25,7 @@ loop-i-preserved g c =
     let p = c.args.self.now in
     let n = c.args.name.now in
     let apart : name_at (rows p.table.now) (get_or p.held c.loop-i.i no_entry).alias ≡ n → ⊥ =
-    λ e. both_ways c.eq.result c.if-eq.false ((slice_eq-Decides Decides-eqb _ _ _ c.eq.ensures).1 (c.name-at.ensures ∙ e)) in
+    λ e. both_ways c.eq.result c.if-eq.false ((slice_eq-Decides Decides-eqb _ _ _ c.eq.ensures).1 (c.name_at.ensures ∙ e)) in
     passed (rows p.table.now) p.held c.loop-i.i n no_entry (omega arith) apart ∙ c.loop-i.invariant
 
 pub returns : goal.returns

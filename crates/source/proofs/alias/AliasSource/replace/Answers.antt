@@ -5,20 +5,20 @@ use Rattle.source.specs.Fronts.{coming_of, open_names, value_for}
 use Rattle.source.proofs.Replaced.{no_value, too_many, in_front, if_unnamed, if_listed, if_not_listed}
 use Rattle.source.proofs.alias.AliasSource.replace.Goals as goal
 
-pub returns-in-default : goal.returns-in-default
-returns-in-default g c =
+pub returns-in_default : goal.returns-in_default
+returns-in_default g c =
     let p = c.args.self.now in
     let word = c.args.word.now in
     let row = rows p.table.now in
-    let o = if_unnamed (look_up row) (open_names p) word c.in-default.ensures.value in
+    let o = if_unnamed (look_up row) (open_names p) word c.in_default.ensures.value in
     let w = no_value c.args.place word (coming_of g.S.Source.coming p) (open_names p) (value_for p word) p.left o in
     record { said = w.said; coming = w.coming; end = refl; names = w.names; left = w.left; table = refl }
 
-pub returns-then-is-open : goal.returns-then-is-open
-returns-then-is-open g c =
+pub returns-then-is_open : goal.returns-then-is_open
+returns-then-is_open g c =
     let p = c.args.self.now in
     let word = c.args.word.now in
-    let o = if_listed (look_up (rows p.table.now)) (open_names p) word c.if-is-open.ensures in
+    let o = if_listed (look_up (rows p.table.now)) (open_names p) word c.if-is_open.ensures in
     let w = no_value c.args.place word (coming_of g.S.Source.coming p) (open_names p) (value_for p word) p.left o in
     record { said = w.said; coming = w.coming; end = refl; names = w.names; left = w.left; table = refl }
 
@@ -27,7 +27,7 @@ returns-then-self-eq0 g c =
     let p = c.args.self.now in
     let word = c.args.word.now in
     let t = p.table.now in
-    let o = if_not_listed (look_up (rows t)) (open_names p) word c.if-is-open.ensures ∙ c.in-Some.ensures.value in
+    let o = if_not_listed (look_up (rows t)) (open_names p) word c.if-is_open.ensures ∙ c.in-Some.ensures.value in
     let w = too_many c.args.place word (coming_of g.S.Source.coming p) (open_names p) (value_for p word) p.left _ o c.if-self-eq0.true in
     record { said = w.said; coming = w.coming; end = refl; names = w.names; left = w.left; table = refl }
 
@@ -37,7 +37,7 @@ returns g c =
     let word = c.args.word.now in
     let t = p.table.now in
     let e = c.push.ensures in
-    let o = if_not_listed (look_up (rows t)) (open_names p) word c.if-is-open.ensures ∙ c.in-Some.ensures.value in
+    let o = if_not_listed (look_up (rows t)) (open_names p) word c.if-is_open.ensures ∙ c.in-Some.ensures.value in
     let w = in_front c.args.place word (coming_of g.S.Source.coming p) (open_names p) (value_for p word) p.left (value_at (rows t) c.in-Some.index) o (omega arith) in
     record {
       said = w.said;

@@ -9,38 +9,38 @@ use Rattle.source.proofs.replace.AliasSourceSource.take.Goals as goal
 abbrev no_entry : Entry
 no_entry = record { alias = 0; offset = 0; place = 0 }
 
-pub returns-then-e-value-at : goal.returns-then-e-value-at
-returns-then-e-value-at g c =
+pub returns-then-e-value_at : goal.returns-then-e-value_at
+returns-then-e-value_at g c =
     let p = c.args.self.now in
     let row = rows p.table.now in
     let ss = g.S.Source.coming p.below in
     let e = get_or p.held p.from no_entry in
-    let v = c.value-at.result.now in
+    let v = c.value_at.result.now in
     record {
-      coming = byte_rest row p.held p.from ss e no_entry v (omega arith) refl c.value-at.ensures.is c.if-e-value-at.true;
+      coming = byte_rest row p.held p.from ss e no_entry v (omega arith) refl c.value_at.ensures.is c.if-e-value_at.true;
       end = refl;
-      names = byte_names row p.held p.from ss e no_entry v (omega arith) refl c.value-at.ensures.is c.if-e-value-at.true;
+      names = byte_names row p.held p.from ss e no_entry v (omega arith) refl c.value_at.ensures.is c.if-e-value_at.true;
       left = refl;
       table = refl;
     }
 
-pub returns-else-e-value-at : goal.returns-else-e-value-at
-returns-else-e-value-at g c =
+pub returns-else-e-value_at : goal.returns-else-e-value_at
+returns-else-e-value_at g c =
     let p = c.args.self.now in
     let row = rows p.table.now in
     let ss = g.S.Source.coming p.below in
     let e = get_or p.held p.from no_entry in
-    let v = c.value-at.result.now in
+    let v = c.value_at.result.now in
     record {
-      coming = end_rest row p.held p.from ss e no_entry v (omega arith) refl c.value-at.ensures.is c.if-e-value-at.false;
+      coming = end_rest row p.held p.from ss e no_entry v (omega arith) refl c.value_at.ensures.is c.if-e-value_at.false;
       end = refl;
-      names = end_names row p.held p.from ss e no_entry v (omega arith) refl c.value-at.ensures.is c.if-e-value-at.false;
+      names = end_names row p.held p.from ss e no_entry v (omega arith) refl c.value_at.ensures.is c.if-e-value_at.false;
       left = refl;
       table = refl;
     }
 
-pub returns-else-self-lt-REPLACEMENT-LIMIT : goal.returns-else-self-lt-REPLACEMENT-LIMIT
-returns-else-self-lt-REPLACEMENT-LIMIT g c =
+pub returns-else-self-lt-REPLACEMENT_LIMIT : goal.returns-else-self-lt-REPLACEMENT_LIMIT
+returns-else-self-lt-REPLACEMENT_LIMIT g c =
     let p = c.args.self.now in
     let row = rows p.table.now in
     let ss = g.S.Source.coming p.below in
