@@ -1,5 +1,5 @@
 -- A queue in an array. Assumes nothing.
-use Rattle.std.proofs.Common.{◌≡◌, ℕ, ◌+◌, ◌<◌, ◌≤◌, Bool, List, [], ◌∷◌, ◌++◌, map, length, get_or, take, set, sym, refl, ap, ◌∙◌, subst, arith}
+use Rattle.std.proofs.Common.{◌≡◌, ℕ, ◌+◌, ◌<◌, ◌≤◌, List, [], ◌∷◌, ◌++◌, map, length, get_or, take, set, sym, ap, ◌∙◌, arith}
 use Rattle.std.proofs.lemmas.List.{map-append, length-map, length-take-le, take_more_set, take-map, take-take, take_all, get_or-map, get_or-take, get_or_past}
 
 module _ {X Y : Type 0} (f : X → Y) (held : List X) (n : ℕ) (h : n ≤ length held) where

@@ -1,5 +1,5 @@
 -- A here-document's body, byte by byte, with no line kept: what is read of a line that may be the delimiter is the delimiter's own beginning. Assumes nothing.
-use Rattle.std.specs.Prelude.{ℕ, ◌+◌, Bool, true, false, cond, ◌&&◌, List, [], ◌∷◌, ◌++◌, length, ◌==◌, nat_le, nat_lt, slice_index}
+use Rattle.std.specs.Prelude.{ℕ, ◌+◌, Bool, false, cond, ◌&&◌, List, [], length, ◌==◌, nat_le, nat_lt, slice_index}
 use Rattle.basics.specs.Bytes.{newline}
 use Rattle.tokens.specs.Bytes.{tab}
 use Rattle.commands.specs.declared.line.Line.{Line}

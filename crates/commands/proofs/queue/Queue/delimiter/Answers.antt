@@ -1,4 +1,4 @@
-use Rattle.std.proofs.Common.{◌≡◌, sym, ap, ◌∙◌, arith}
+use Rattle.std.proofs.Common.{sym, ap, ◌∙◌, arith}
 use Rattle.commands.specs.Bodies.{Document, no_document}
 use Rattle.commands.specs.Queues.{document_of}
 use Rattle.commands.proofs.Orders.{at, past}
