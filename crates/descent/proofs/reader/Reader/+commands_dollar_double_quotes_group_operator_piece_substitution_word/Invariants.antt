@@ -17,8 +17,8 @@ decreases-word l = 8 * (33 - l.depth) + 4
 abbrev pub decreases-piece : goal.decreases-piece
 decreases-piece l = 8 * (33 - l.depth) + 3
 
-abbrev pub decreases-double-quotes : goal.decreases-double-quotes
-decreases-double-quotes l = 8 * (33 - l.depth) + 2
+abbrev pub decreases-double_quotes : goal.decreases-double_quotes
+decreases-double_quotes l = 8 * (33 - l.depth) + 2
 
 abbrev pub decreases-dollar : goal.decreases-dollar
 decreases-dollar l = 8 * (33 - l.depth) + 1
