@@ -5,7 +5,7 @@ use Rattle.source.specs.declared.symbol.Sign.TheVariants.{Byte, Hole, AliasEnd}
 use Rattle.source.specs.declared.symbol.Symbol.{Symbol}
 use Rattle.source.specs.Symbols.{aliased, bytes_at, symbol}
 use Rattle.source.specs.Replacing.{outer}
-use Rattle.reading.specs.Readings.{Turn, goes, fails, Reader, Aliases, Event, act, hole, Ending, ended, refused, Reading, acts, first, only, ahead, value_ahead, Replaced, replaced, at_turn, at_hole, or_replaced, replacing, read_to, read}
+use Rattle.reading.specs.Readings.{Turn, goes, fails, Reader, Aliases, Event, act, hole, ended, refused, Reading, acts, first, only, ahead, value_ahead, Replaced, replaced, at_turn, or_replaced, replacing, read_to, read}
 use Rattle.reading.specs.Placed.{Placing, perform, faulty, turn_at, replacing_at, sign_at, placed_to, placed}
 use Rattle.reading.specs.Items.{signs}
 use Rattle.reading.specs.Unplaced.{told, of_turn, telling, each, strip_events, strip_ending, strip}

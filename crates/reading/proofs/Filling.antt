@@ -11,14 +11,13 @@ use Rattle.quoting.specs.Forms.{LawfulForm}
 use Rattle.tokens.specs.declared.letter.Mark.TheVariants.{Quoted}
 use Rattle.tokens.specs.Letters.{marked}
 use Rattle.reading.specs.declared.act.Act.{Act}
-use Rattle.reading.specs.declared.act.Act.TheVariants as does
 use Rattle.reading.specs.declared.act.Fault.{Fault}
 use Rattle.reading.specs.States.{Control, fresh}
-use Rattle.reading.specs.Readings.{Aliases, Event, act, hole, Ending, ended, refused, Reading, ahead, read}
-use Rattle.reading.specs.Items.{shell, Written, letter, item, forget, writes, ItemLetter, known, filled_by, Item, items, signs}
+use Rattle.reading.specs.Readings.{Aliases, Event, act, hole, Ending, ended, refused, ahead, read}
+use Rattle.reading.specs.Items.{shell, Written, letter, item, forget, writes, ItemLetter, known, filled_by, items, signs}
 use Rattle.reading.specs.Unplaced.{reason_of, unplaced, reading_of, items_of, each, strip, strip_events, strip_ending}
-use Rattle.reading.specs.Filled.{render, rendered, spelled, fill_events, fill, Well, Accepted, quoted, quoted_letters, fill_letters, fill_item, fill_items}
-use Rattle.reading.specs.Listed.{Places, nowhere, Entry, act_place, at_place, refusal_at, placing, reading, Listed, listed_from, listed, listed_items, template_reading, script_reading}
+use Rattle.reading.specs.Filled.{render, rendered, spelled, fill_events, fill, Well, Accepted, quoted, quoted_letters, fill_letters, fill_items}
+use Rattle.reading.specs.Listed.{Places, nowhere, Entry, act_place, at_place, placing, reading, listed_from, listed, listed_items, template_reading, script_reading}
 use Rattle.reading.specs.Laws.{ScriptReadsAsTemplateFilled, ScriptsDifferInHolesAlone}
 use Rattle.reading.proofs.Quoting.{shell_fills}
 use Rattle.reading.proofs.Apart.{placed_apart}

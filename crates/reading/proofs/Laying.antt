@@ -3,8 +3,8 @@ use Rattle.std.proofs.Common.{◌≡◌, List, [], ◌∷◌, ◌++◌, Ok, Err,
 use Rattle.reading.specs.declared.act.Act.{Act}
 use Rattle.reading.specs.declared.act.Fault.{Fault}
 use Rattle.reading.specs.States.{State}
-use Rattle.reading.specs.Steps.{Step, done, refuse, does, ◌then◌, Outcome, went, failed, outcome, after, onward, fault}
-use Rattle.reading.specs.Laid.{Held, held, and, laid, performs, lay}
+use Rattle.reading.specs.Steps.{Step, done, refuse, does, ◌then◌, Outcome, went, failed, outcome, after, onward}
+use Rattle.reading.specs.Laid.{held, and, laid, performs, lay}
 
 module _ (O E : Type 0) (put : Act → O → Result O E) (placed : Fault → O → E) where
   and_and : {X Y Z : Type 0} (r : Result X E) (f : X → Result Y E) (g : Y → Result Z E) → and (and r f) g ≡ and r (λ t. and (f t) g)

@@ -1,5 +1,5 @@
 -- What is kept of a plain word, against all its bytes. Assumes nothing.
-use Rattle.std.proofs.Common.{◌≡◌, ℕ, zero, suc, ◌<◌, ◌≤◌, Bool, true, false, cond, ◌&&◌, ◌||◌, eqb, ltb, leb, ◌⊎◌, List, [], ◌∷◌, ◌++◌, length, take, sym, refl, ap, ◌∙◌, inl, inr, arith}
+use Rattle.std.proofs.Common.{◌≡◌, ℕ, zero, suc, ◌<◌, ◌≤◌, Bool, true, false, ◌&&◌, ◌||◌, eqb, ltb, leb, List, [], ◌∷◌, ◌++◌, length, take, sym, refl, ap, ◌∙◌, inl, inr, arith}
 use Rattle.std.proofs.lemmas.List.{append_assoc, append-nil, length_push, take_all, take_at}
 use Rattle.std.proofs.lemmas.Bool.{cases_Bool, cases_lt, and_parts, ltb-true, lt-ltb, le-ltb, leb-true, lt-leb, ne_eqb}
 use Rattle.std.specs.Str.{bytes_eq}
@@ -7,11 +7,11 @@ use Rattle.tokens.specs.declared.opening.Opening.{Opening}
 use Rattle.tokens.specs.declared.opening.Opening.TheVariants.{Digits, Name, Assign, Other}
 use Rattle.tokens.specs.Bytes.{is_digit, is_name_start, is_name_byte, equals}
 use Rattle.tokens.specs.Openings.{opened, further, is_assign, is_number, kept}
-use Rattle.commands.specs.Roles.{one_of, reserved_words, is_reserved}
+use Rattle.commands.specs.Roles.{one_of, reserved_words}
 use Rattle.reading.specs.declared.mode.Mode.TheVariants.{Plain}
-use Rattle.reading.specs.States.{Word, gap, assigned}
+use Rattle.reading.specs.States.{Word, assigned}
 use Rattle.reading.specs.Words.{reserved}
-use Rattle.reading.specs.PlainWords.{with_bytes, all_digits, name_goes_on, assigns, numeric, PlainWord, KeptBytesTellTheWord}
+use Rattle.reading.specs.PlainWords.{with_bytes, all_digits, name_goes_on, assigns, numeric, KeptBytesTellTheWord}
 
 abbrev plain : List ℕ → Opening → Word
 plain k o = record { mode = Plain o; kept = k }

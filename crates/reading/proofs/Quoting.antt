@@ -1,5 +1,5 @@
 -- What the shell's reader does with quotes where it takes a hole. Assumes nothing.
-use Rattle.std.proofs.Common.{◌≡◌, ℕ, Bool, true, false, cond, eqb, List, [], ◌∷◌, ◌++◌, Some, None, Option, sym, refl, ap, ◌∙◌, ap₂, append_assoc, arith}
+use Rattle.std.proofs.Common.{◌≡◌, ℕ, Bool, true, false, cond, eqb, List, [], ◌∷◌, ◌++◌, None, sym, refl, ap, ◌∙◌, ap₂, append_assoc, arith}
 use Rattle.basics.specs.declared.refusal.Reason.{Reason}
 use Rattle.basics.specs.declared.refusal.Reason.TheVariants.{TooDeep}
 use Rattle.basics.specs.Bytes.{newline, single_quote, backslash}
@@ -18,20 +18,19 @@ use Rattle.commands.specs.declared.frame.Frame.TheVariants as frame
 use Rattle.reading.specs.declared.act.Act.{Act}
 use Rattle.reading.specs.declared.act.Act.TheVariants.{WordHere, WordAtBackslash, Letter}
 use Rattle.reading.specs.declared.act.At.TheVariants as at
-use Rattle.reading.specs.declared.act.Fault.{Fault}
 use Rattle.reading.specs.declared.mode.Mode.{Mode}
 use Rattle.reading.specs.declared.mode.Mode.TheVariants as mode
 use Rattle.reading.specs.declared.mode.Region.{Region}
 use Rattle.reading.specs.declared.mode.Region.TheVariants as region
-use Rattle.reading.specs.States.{State, Control, Documents, set_frames, set_documents, set_letters, calm, room, top_of, region_of, assigned}
+use Rattle.reading.specs.States.{State, Control, set_frames, set_documents, set_letters, calm, room, top_of, region_of, assigned}
 use Rattle.reading.specs.Steps.{Step, done, refuse, does, ◌then◌, Outcome, went, failed, outcome, after, onward, Move}
 use Rattle.reading.specs.Words.{starting, enter, with_letter}
 use Rattle.reading.specs.Expansions.{settled, settle, go_on}
-use Rattle.reading.specs.Text.{work, escaped, in_text}
-use Rattle.reading.specs.Holes.{open_to_hole, not_taken, taken_if, hole_at, hole_after, hole_in, hole}
-use Rattle.reading.specs.Moves.{byte, byte_in, byte_escaped}
+use Rattle.reading.specs.Text.{work, escaped}
+use Rattle.reading.specs.Holes.{open_to_hole, not_taken, taken_if, hole_at, hole_in, hole}
+use Rattle.reading.specs.Moves.{byte, byte_in}
 use Rattle.reading.specs.Readings.{Turn, goes, fails}
-use Rattle.reading.specs.Items.{turned, turn, Written, letter, writes}
+use Rattle.reading.specs.Items.{turned, turn, Written, writes}
 use Rattle.reading.specs.Unplaced.{told, of_turn, reason_of, unplaced}
 use Rattle.reading.specs.Filled.{quoted}
 use Rattle.reading.specs.Laws.{Quotes, FormIsOneWordsLetters, Fills}

@@ -1,17 +1,16 @@
 -- How a rendered script is read, by any reader that meets the laws about quotes. Assumes nothing.
-use Rattle.std.proofs.Common.{◌≡◌, ℕ, zero, suc, ◌≤◌, Bool, true, false, cond, eqb, List, [], ◌∷◌, ◌++◌, length, Some, None, Option, sym, refl, ap, ◌∙◌, append_assoc, arith}
+use Rattle.std.proofs.Common.{◌≡◌, ℕ, zero, suc, ◌≤◌, Bool, true, false, cond, eqb, List, [], ◌∷◌, ◌++◌, Some, None, Option, sym, refl, ap, ◌∙◌, arith}
 use Rattle.std.proofs.lemmas.Bool.{eqb-true}
 use Rattle.basics.specs.Bytes.{newline, single_quote, backslash}
 use Rattle.source.specs.declared.symbol.Sign.{Sign}
 use Rattle.source.specs.declared.symbol.Sign.TheVariants.{Byte, Hole, AliasEnd}
 use Rattle.quoting.specs.declared.form.State.{State}
 use Rattle.quoting.specs.declared.form.State.TheVariants.{Bare, Escaped, SingleQuoted}
-use Rattle.quoting.specs.declared.form.Step.{Step}
 use Rattle.quoting.specs.declared.form.Step.TheVariants.{Passes, Delivers, Unlawful}
 use Rattle.quoting.specs.Forms.{delivered, stepped, with_byte, LawfulForm}
 use Rattle.source.specs.Replacing.{outer}
-use Rattle.reading.specs.Readings.{Turn, goes, fails, Reader, Aliases, Event, act, hole, Ending, ended, refused, Reading, acts, first, only, ahead, value_ahead, Replaced, replaced, at_turn, at_hole, or_replaced, replacing, read_to, read}
-use Rattle.reading.specs.Filled.{render, spelled, fill_events, fill, Well, Accepted}
+use Rattle.reading.specs.Readings.{Turn, goes, fails, Reader, Aliases, Event, act, hole, ended, refused, Reading, acts, first, only, ahead, value_ahead, Replaced, replaced, at_turn, at_hole, or_replaced, replacing, read_to, read}
+use Rattle.reading.specs.Filled.{render, spelled, fill_events, fill, Accepted}
 use Rattle.reading.specs.Laws.{Quotes, FormsGiveLetters, Fills}
 
 never : {X : Type 0} (x : X) → ◌≡◌ {A = Option X} None (Some x) → ⊥

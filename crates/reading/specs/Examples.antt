@@ -1,5 +1,5 @@
 -- Some readings, worked out. Assumes nothing.
-use Rattle.std.specs.Prelude.{◌≡◌, ℕ, cond, List, [], ◌∷◌, ◌++◌, Some, None, codes}
+use Rattle.std.specs.Prelude.{◌≡◌, ℕ, cond, List, [], ◌∷◌, Some, None, codes}
 use Rattle.std.specs.Str.{bytes_eq}
 use Rattle.basics.specs.declared.refusal.Reason.{Reason}
 use Rattle.basics.specs.declared.refusal.Reason.TheVariants.{HoleNotTaken, OutOfPlace, HereDocument}
@@ -7,12 +7,12 @@ use Rattle.basics.specs.declared.refusal.Refusal.{Refusal}
 use Rattle.quoting.specs.Singles.{single}
 use Rattle.tokens.specs.declared.letter.Mark.{Mark}
 use Rattle.tokens.specs.declared.letter.Mark.TheVariants.{Bare, Quoted}
-use Rattle.tokens.specs.declared.operator.Operator.TheVariants.{Great, Here}
+use Rattle.tokens.specs.declared.operator.Operator.TheVariants.{Great}
 use Rattle.tokens.specs.Letters.{marked}
-use Rattle.commands.specs.declared.role.Role.TheVariants.{Name, Arg, Target, Number, Delim}
+use Rattle.commands.specs.declared.role.Role.TheVariants.{Name, Arg, Target, Number}
 use Rattle.commands.specs.declared.item.Kind.{Kind}
 use Rattle.commands.specs.declared.item.Kind.TheVariants.{Part, Open, Close, Word, Operator}
-use Rattle.reading.specs.Readings.{Aliases, Reading, Ending, ended, refused}
+use Rattle.reading.specs.Readings.{Aliases, Reading, ended, refused}
 use Rattle.reading.specs.Items.{ItemLetter, known, Item}
 use Rattle.reading.specs.Listed.{Entry, listed, listed_items, template_reading, script_reading}
 

@@ -1,5 +1,5 @@
 -- Expansions: what follows a `$`. Assumes nothing.
-use Rattle.std.specs.Prelude.{ℕ, Bool, true, false, cond, List, [], ◌∷◌, ◌++◌, length, Some, None, Option, ◌==◌}
+use Rattle.std.specs.Prelude.{ℕ, cond, List, [], ◌∷◌, length, Some, None, Option, ◌==◌}
 use Rattle.basics.specs.declared.refusal.Reason.TheVariants as reason
 use Rattle.tokens.specs.declared.begun.Begun.{Begun}
 use Rattle.tokens.specs.declared.begun.Begun.TheVariants as begun
@@ -8,7 +8,6 @@ use Rattle.tokens.specs.declared.letter.Mark.TheVariants.{Expansion}
 use Rattle.tokens.specs.declared.operator.Operator.{Operator}
 use Rattle.tokens.specs.Bytes.{class_of, is_name_start, is_name_byte, dollar, open_paren, open_brace, close_brace}
 use Rattle.tokens.specs.Operators.{lengthened}
-use Rattle.commands.specs.declared.awaited.Awaited.{Awaited}
 use Rattle.commands.specs.declared.awaited.Awaited.TheVariants as awaited
 use Rattle.commands.specs.declared.stage.Stage.TheVariants.{Start}
 use Rattle.commands.specs.declared.frame.Frame.TheVariants as frame

@@ -9,7 +9,7 @@ use Rattle.reading.specs.declared.act.Act.{Act}
 use Rattle.reading.specs.declared.act.Act.TheVariants as does
 use Rattle.reading.specs.declared.act.At.TheVariants as at
 use Rattle.reading.specs.declared.act.Fault.{Fault}
-use Rattle.reading.specs.States.{State, Control, fresh}
+use Rattle.reading.specs.States.{Control}
 use Rattle.reading.specs.Steps.{Outcome, went, failed, outcome, Move, fault}
 use Rattle.reading.specs.Moves.{byte, alias_end, end, name, name_before, without_word}
 use Rattle.reading.specs.Holes.{hole}

@@ -1,9 +1,9 @@
 -- A step laid on a sheet of any kind: what code that writes as it goes computes. Assumes nothing.
-use Rattle.std.specs.Prelude.{Bool, List, [], ◌∷◌, ◌++◌, Ok, Err, Result}
+use Rattle.std.specs.Prelude.{List, [], ◌∷◌, Ok, Err, Result}
 use Rattle.reading.specs.declared.act.Act.{Act}
 use Rattle.reading.specs.declared.act.Fault.{Fault}
 use Rattle.reading.specs.States.{State, Control}
-use Rattle.reading.specs.Steps.{Step, done, refuse, does, ◌then◌, fault, Outcome, went, failed, outcome, Move}
+use Rattle.reading.specs.Steps.{Step, done, refuse, does, ◌then◌, fault, Outcome, went, failed, Move}
 
 pub record Held (C O : Type 0) : Type 0 where
   pub at : C

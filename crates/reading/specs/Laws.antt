@@ -4,10 +4,7 @@ use Rattle.basics.specs.Bytes.{newline, single_quote, backslash}
 use Rattle.quoting.specs.Forms.{LawfulForm}
 use Rattle.source.specs.declared.symbol.Sign.{Sign}
 use Rattle.source.specs.Symbols.{template}
-use Rattle.reading.specs.declared.act.Fault.{Fault}
-use Rattle.reading.specs.States.{Control}
-use Rattle.reading.specs.Readings.{Turn, goes, Reader, Aliases, Reading, acts, first, ahead, read}
-use Rattle.reading.specs.Items.{Written}
+use Rattle.reading.specs.Readings.{goes, Reader, Aliases, acts, first, ahead, read}
 use Rattle.reading.specs.Unplaced.{unplaced}
 use Rattle.reading.specs.Filled.{render, rendered, spelled, fill, Accepted, quoted, fill_items}
 use Rattle.reading.specs.Listed.{listed, listed_items, template_reading, script_reading}

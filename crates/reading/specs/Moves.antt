@@ -1,5 +1,5 @@
 -- What each symbol, and the end, does to the whole control; and the word that it may replace. Assumes nothing.
-use Rattle.std.specs.Prelude.{ℕ, Bool, true, false, cond, not, ◌&&◌, ◌||◌, List, [], ◌∷◌, Some, None, Option, ◌==◌, nat_lt}
+use Rattle.std.specs.Prelude.{ℕ, Bool, true, false, cond, not, ◌&&◌, ◌||◌, List, Some, None, Option, ◌==◌, nat_lt}
 use Rattle.basics.specs.declared.refusal.Reason.TheVariants as reason
 use Rattle.tokens.specs.declared.top.Top.{Top}
 use Rattle.tokens.specs.declared.top.Top.TheVariants as top
@@ -18,7 +18,7 @@ use Rattle.reading.specs.declared.mode.Region.{Region}
 use Rattle.reading.specs.declared.mode.Region.TheVariants as region
 use Rattle.reading.specs.declared.act.Act.TheVariants.{BackslashHere}
 use Rattle.reading.specs.declared.act.At.TheVariants as at
-use Rattle.reading.specs.States.{State, Control, Documents, Word, set_word, gap, calm, waits, depth, top_of, region_of}
+use Rattle.reading.specs.States.{State, Control, set_word, gap, calm, waits, depth, top_of, region_of}
 use Rattle.reading.specs.Steps.{Step, done, refuse, does, ◌then◌, Move, plainly}
 use Rattle.reading.specs.Words.{word_ends, use_here}
 use Rattle.reading.specs.Expansions.{settle}

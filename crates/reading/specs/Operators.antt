@@ -1,5 +1,5 @@
 -- Operators are begun, lengthened and given. Assumes nothing.
-use Rattle.std.specs.Prelude.{ℕ, ◌+◌, Bool, true, false, cond, List, [], ◌∷◌, ◌++◌, length, take, Some, None, Option, nat_lt}
+use Rattle.std.specs.Prelude.{ℕ, Bool, cond, [], ◌∷◌, length, take, Some, None, Option, nat_lt}
 use Rattle.basics.specs.declared.refusal.Reason.TheVariants as reason
 use Rattle.tokens.specs.declared.begun.Begun.TheVariants as begun
 use Rattle.tokens.specs.declared.operator.Operator.{Operator}
@@ -18,7 +18,7 @@ use Rattle.commands.specs.Redirections.{awaited_by}
 use Rattle.reading.specs.declared.mode.Mode.TheVariants as mode
 use Rattle.reading.specs.declared.act.Act.TheVariants.{OperatorHere, BodyNext, Item}
 use Rattle.reading.specs.declared.act.At.TheVariants as at
-use Rattle.reading.specs.States.{Word, Command, Documents, State, set_begun, set_word, set_frames, set_command, set_documents, set_letters, set_waiting, command, in_mode, gap, depth, room, waits, innermost, around}
+use Rattle.reading.specs.States.{State, set_begun, set_word, set_frames, set_command, set_documents, set_letters, set_waiting, command, in_mode, gap, depth, room, waits, innermost, around}
 use Rattle.reading.specs.Steps.{Step, done, refuse, does, ◌then◌}
 use Rattle.reading.specs.Words.{word_ends}
 

@@ -1,11 +1,11 @@
 -- A reading with its places, which control never sees. Assumes nothing.
-use Rattle.std.specs.Prelude.{◌≡◌, ℕ, zero, suc, List, [], ◌∷◌, ◌++◌, Some, None, Option}
+use Rattle.std.specs.Prelude.{ℕ, zero, suc, List, [], ◌∷◌}
 use Rattle.source.specs.declared.symbol.Sign.{Sign}
 use Rattle.source.specs.declared.symbol.Sign.TheVariants.{Byte, Hole, AliasEnd}
 use Rattle.source.specs.declared.symbol.Symbol.{Symbol}
 use Rattle.source.specs.Symbols.{aliased}
 use Rattle.source.specs.Replacing.{outer}
-use Rattle.reading.specs.Readings.{Turn, goes, fails, Reader, Aliases, Event, act, hole, Ending, ended, refused, Reading, acts, first, only, Replaced, replaced, or_replaced, read}
+use Rattle.reading.specs.Readings.{Turn, goes, fails, Reader, Aliases, hole, ended, refused, Reading, acts, first, only, Replaced, replaced, or_replaced}
 
 -- places kept (P): what an act at a place notes of them and what it writes (B), the refusal (E) that a fault comes to, and the place of the word
 pub record Placing (A B F E P : Type 0) : Type 0 where

@@ -1,5 +1,5 @@
 -- What the reader goes by: its control, apart from all that it writes. Assumes nothing.
-use Rattle.std.specs.Prelude.{ℕ, Bool, true, false, List, [], ◌∷◌, length, Some, None, Option, nat_lt}
+use Rattle.std.specs.Prelude.{ℕ, Bool, false, List, [], length, Some, None, Option, nat_lt}
 use Rattle.basics.specs.Stacks as stacks
 use Rattle.tokens.specs.declared.begun.Begun.{Begun}
 use Rattle.tokens.specs.declared.begun.Begun.TheVariants as begun

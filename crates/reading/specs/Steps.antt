@@ -1,5 +1,5 @@
 -- A step: what is written, in order, and the state after it, or a refusal. Assumes nothing.
-use Rattle.std.specs.Prelude.{ℕ, Bool, false, List, [], ◌∷◌, ◌++◌, Ok, Err, Result}
+use Rattle.std.specs.Prelude.{ℕ, Bool, false, List, [], ◌∷◌, ◌++◌}
 use Rattle.basics.specs.declared.refusal.Reason.{Reason}
 use Rattle.tokens.specs.declared.letter.Mark.{Mark}
 use Rattle.tokens.specs.Letters.{marked}
@@ -7,7 +7,7 @@ use Rattle.reading.specs.declared.act.Act.{Act}
 use Rattle.reading.specs.declared.act.Act.TheVariants.{Letter}
 use Rattle.reading.specs.declared.act.At.{At}
 use Rattle.reading.specs.declared.act.Fault.{Fault}
-use Rattle.reading.specs.States.{State, Control}
+use Rattle.reading.specs.States.{State}
 
 infixl 20 ◌then◌
 -- it is done, in a state; it is refused; it does an act and goes on; one step, and then another from the state that the first leaves

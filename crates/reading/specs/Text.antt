@@ -1,5 +1,5 @@
 -- What a byte does in command text, in quotes, after a backslash, in a comment and in a body. Assumes nothing.
-use Rattle.std.specs.Prelude.{ℕ, ◌+◌, Bool, true, false, cond, List, [], ◌∷◌, ◌++◌, take, ◌==◌, slice_index_or}
+use Rattle.std.specs.Prelude.{ℕ, ◌+◌, true, false, cond, ◌∷◌, take, ◌==◌, slice_index_or}
 use Rattle.basics.specs.declared.refusal.Reason.TheVariants as reason
 use Rattle.tokens.specs.declared.begun.Begun.TheVariants as begun
 use Rattle.tokens.specs.declared.top.Top.{Top}

@@ -1,11 +1,10 @@
 -- A reader of whose acts less is told, and the reading of which the places are left out. Assumes nothing.
-use Rattle.std.specs.Prelude.{◌≡◌, ℕ, List, [], ◌∷◌, ◌++◌}
+use Rattle.std.specs.Prelude.{ℕ, List, [], ◌∷◌, ◌++◌}
 use Rattle.basics.specs.declared.refusal.Reason.{Reason}
 use Rattle.source.specs.declared.symbol.Symbol.{Symbol}
 use Rattle.reading.specs.declared.act.Fault.{Fault}
 use Rattle.reading.specs.States.{Control, fresh}
 use Rattle.reading.specs.Readings.{Turn, goes, fails, Reader, Aliases, Event, act, hole, Ending, ended, refused, Reading, read}
-use Rattle.reading.specs.Placed.{Placing, placed}
 use Rattle.reading.specs.Items.{shell, Written, writes, signs, items, Item}
 
 -- what is told of each act

@@ -1,5 +1,5 @@
 -- A word begins, goes on and ends. Assumes nothing.
-use Rattle.std.specs.Prelude.{ℕ, Bool, true, false, cond, ◌&&◌, ◌||◌, List, [], ◌∷◌, ◌++◌, length, Some, None, Option, nat_le, nat_lt}
+use Rattle.std.specs.Prelude.{ℕ, Bool, false, cond, ◌&&◌, ◌||◌, List, [], ◌∷◌, ◌++◌, length, Some, None, Option, nat_le, nat_lt}
 use Rattle.basics.specs.declared.refusal.Reason.TheVariants as reason
 use Rattle.tokens.specs.declared.begun.Begun.TheVariants as begun
 use Rattle.tokens.specs.declared.letter.Mark.TheVariants.{Bare, Quoted}

@@ -28,14 +28,14 @@ returns-in_err-in_command g c =
     let ns = open_names p in
     let b = c.args.b in
     let q = c.args.place in
-    let is : Some (symbol (Byte b) q) ≡ first ss = c.requires.1 in
+    let is : Some (symbol (Byte b) q) ≡ first ss = c.requires.place_value in
     let l : is_own_work (class_of b) i ≡ true = ap (λ (k : Class). is_own_work k i) (sym c.class_of-class.ensures) ∙ sym c.is_own_work.ensures ∙ c.if-not-is_own_work.false in
     let x = in_command (class_of b) b i in
     let at-class = ap (λ (k : Class). lays g.W.Sink.written g.W.Sink.placed q (in_command k b i) s) c.class_of-class.ensures in
     let f = err_from_is_err_and c.from-residual.result c.from-residual.ensures.1 in
     let r : c.from-residual.result ≡ Err c.in_err-in_command.field-0.0 = rw (f.1, f.2) in
     record {
-      goes = rw (f.1, f.2) (letter_refused W al e p.left ss ns i s b q x is (own_no_word b i l) (own_moves g.W.Sink.written g.W.Sink.placed q s b i c.requires.0 l) c.in_err-in_command.field-0.0 (c.in_err-in_command.ensures ∙ at-class));
+      goes = rw (f.1, f.2) (letter_refused W al e p.left ss ns i s b q x is (own_no_word b i l) (own_moves g.W.Sink.written g.W.Sink.placed q s b i c.requires.self_value l) c.in_err-in_command.field-0.0 (c.in_err-in_command.ensures ∙ at-class));
       falls = omega arith;
       fewer = λ z. let n : ◌≡◌ {A = ℕ} 0 1 = cc in absurd (omega arith);
     }
@@ -52,7 +52,7 @@ returns g c =
     let ns = open_names p in
     let b = c.args.b in
     let q = c.args.place in
-    let is : Some (symbol (Byte b) q) ≡ first ss = c.requires.1 in
+    let is : Some (symbol (Byte b) q) ≡ first ss = c.requires.place_value in
     let l : is_own_work (class_of b) i ≡ true = ap (λ (k : Class). is_own_work k i) (sym c.class_of-class.ensures) ∙ sym c.is_own_work.ensures ∙ c.if-not-is_own_work.false in
     let x = in_command (class_of b) b i in
     let at-class = ap (λ (k : Class). lays g.W.Sink.written g.W.Sink.placed q (in_command k b i) s) c.class_of-class.ensures in
@@ -61,7 +61,7 @@ returns g c =
     let less = fewer p.left ss (symbol (Byte b) q) is in
     record {
       goes = same_reading W (calm j) t c.take.ensures.table c.take.ensures.end c.take.ensures.left c.take.ensures.coming (c.take.ensures.names ∙ named_after ss ns (symbol (Byte b) q) is)
-          ∙ letter_went W al e p.left ss ns i s b q x is (own_no_word b i l) (own_moves g.W.Sink.written g.W.Sink.placed q s b i c.requires.0 l) j t (c.in_ok-in_command.ensures ∙ at-class);
+          ∙ letter_went W al e p.left ss ns i s b q x is (own_no_word b i l) (own_moves g.W.Sink.written g.W.Sink.placed q s b i c.requires.self_value l) j t (c.in_ok-in_command.ensures ∙ at-class);
       falls = omega (arith, less, c.take.ensures.left, ap length c.take.ensures.coming);
       fewer = λ z. omega (arith, less, c.take.ensures.left, ap length c.take.ensures.coming);
     }

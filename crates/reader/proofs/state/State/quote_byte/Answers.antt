@@ -25,13 +25,13 @@ returns-in_err-in_quotes g c =
     let ns = open_names p in
     let b = c.args.b in
     let q = c.args.place in
-    let is : Some (symbol (Byte b) q) ≡ first ss = c.requires.1 in
+    let is : Some (symbol (Byte b) q) ≡ first ss = c.requires.place_value in
     let l : eqb b backslash ≡ false = no_other b backslash c.if-b-eq92.false in
     let x = in_quotes c.args.double b i in
     let f = err_from_is_err_and c.from-residual.result c.from-residual.ensures.1 in
     let r : c.from-residual.result ≡ Err c.in_err-in_quotes.field-0.0 = rw (f.1, f.2) in
     record {
-      goes = rw (f.1, f.2) (letter_refused W al e p.left ss ns i s b q x is (quoted_no_word b i c.args.double c.requires.0) (quote_moves g.W.Sink.written g.W.Sink.placed q s b i c.args.double c.requires.0 l) c.in_err-in_quotes.field-0.0 c.in_err-in_quotes.ensures);
+      goes = rw (f.1, f.2) (letter_refused W al e p.left ss ns i s b q x is (quoted_no_word b i c.args.double c.requires.self_value) (quote_moves g.W.Sink.written g.W.Sink.placed q s b i c.args.double c.requires.self_value l) c.in_err-in_quotes.field-0.0 c.in_err-in_quotes.ensures);
       falls = omega arith;
       fewer = λ z. let n : ◌≡◌ {A = ℕ} 0 1 = cc in absurd (omega arith);
     }
@@ -48,7 +48,7 @@ returns g c =
     let ns = open_names p in
     let b = c.args.b in
     let q = c.args.place in
-    let is : Some (symbol (Byte b) q) ≡ first ss = c.requires.1 in
+    let is : Some (symbol (Byte b) q) ≡ first ss = c.requires.place_value in
     let l : eqb b backslash ≡ false = no_other b backslash c.if-b-eq92.false in
     let x = in_quotes c.args.double b i in
     let j = state_of c.in_quotes.new.self in
@@ -56,7 +56,7 @@ returns g c =
     let less = fewer p.left ss (symbol (Byte b) q) is in
     record {
       goes = same_reading W (calm j) t c.take.ensures.table c.take.ensures.end c.take.ensures.left c.take.ensures.coming (c.take.ensures.names ∙ named_after ss ns (symbol (Byte b) q) is)
-          ∙ letter_went W al e p.left ss ns i s b q x is (quoted_no_word b i c.args.double c.requires.0) (quote_moves g.W.Sink.written g.W.Sink.placed q s b i c.args.double c.requires.0 l) j t c.in_ok-in_quotes.ensures;
+          ∙ letter_went W al e p.left ss ns i s b q x is (quoted_no_word b i c.args.double c.requires.self_value) (quote_moves g.W.Sink.written g.W.Sink.placed q s b i c.args.double c.requires.self_value l) j t c.in_ok-in_quotes.ensures;
       falls = omega (arith, less, c.take.ensures.left, ap length c.take.ensures.coming);
       fewer = λ z. omega (arith, less, c.take.ensures.left, ap length c.take.ensures.coming);
     }
