@@ -1,5 +1,5 @@
 -- Letters put one after another. Assumes nothing.
-use Rattle.std.proofs.Common.{◌≡◌, ℕ, ◌+◌, ◌<◌, ◌≤◌, List, [], ◌∷◌, length, get_or, drop, Ok, Err, Result, sym, ap, ◌∙◌}
+use Rattle.std.proofs.Common.{◌≡◌, ℕ, ◌+◌, ◌<◌, ◌≤◌, List, length, get_or, drop, Ok, Err, Result, sym, ap, ◌∙◌}
 use Rattle.std.proofs.lemmas.List.{drop_more, drop_all}
 use Rattle.basics.specs.declared.refusal.Refusal.{Refusal}
 use Rattle.tokens.specs.declared.letter.Mark.TheVariants.{Body}
@@ -10,7 +10,7 @@ use Rattle.reading.specs.declared.act.Fault.{Fault}
 use Rattle.reading.specs.States.{State}
 use Rattle.reading.specs.Steps.{writes, done}
 use Rattle.reading.specs.Laid.{Held, held, and}
-use Rattle.reader.specs.Held.{result_of, lays}
+use Rattle.reader.specs.Held.{lays}
 
 module _ {S : Type 0} (W : Act → ℕ → S → Result S Refusal) (P : Fault → ℕ → S → Refusal) (p : ℕ) (t : List ℕ) (k : ℕ) (o : S) (i : State) where
   abbrev rest : List ℕ → S → Result (Held State S) Refusal

@@ -1,5 +1,5 @@
 -- A letter of a run does nothing else, and no word that may be replaced ends before it. Assumes nothing.
-use Rattle.std.proofs.Common.{◌≡◌, ℕ, Bool, true, false, cond, not, ◌&&◌, ◌||◌, T, eqb, ◌⊎◌, List, [], ◌∷◌, Some, None, Ok, Err, Option, Result, sym, refl, ap, ◌∙◌, subst, inl, inr, arith, eqb→eq}
+use Rattle.std.proofs.Common.{◌≡◌, ℕ, Bool, true, false, cond, not, ◌&&◌, ◌||◌, T, eqb, ◌⊎◌, List, Some, Ok, Err, Option, Result, sym, refl, ap, ◌∙◌, subst, inl, inr, arith, eqb→eq}
 use Rattle.std.proofs.lemmas.Bool.{and_cases, and_left, and_right}
 use Rattle.basics.specs.Bytes.{newline, single_quote, backslash}
 use Rattle.basics.specs.declared.refusal.Refusal.{Refusal}
@@ -13,9 +13,6 @@ use Rattle.tokens.specs.declared.top.Top.TheVariants as top
 use Rattle.tokens.specs.Bytes.{class_of, ends_word, redirects, double_quote, dollar, backquote}
 use Rattle.tokens.specs.Expansions.{is_nothing}
 use Rattle.tokens.specs.Letters.{marked}
-use Rattle.commands.specs.declared.frame.Frame.{Frame}
-use Rattle.commands.specs.declared.frame.Frame.TheVariants as frame
-use Rattle.commands.specs.declared.line.Line.{Line}
 use Rattle.commands.specs.declared.line.Line.TheVariants as line
 use Rattle.commands.specs.declared.line.Gives.TheVariants as gives
 use Rattle.commands.specs.declared.line.LineByte.{LineByte}
@@ -40,15 +37,15 @@ use Rattle.basics.specs.declared.refusal.Reason.TheVariants as reason
 use Rattle.reading.specs.Laid.{Held, held, and}
 use Rattle.reading.specs.Moves.{byte, byte_in, named, named_in, plain_name, backslash_here}
 use Rattle.reading.specs.Readings.{Aliases}
-use Rattle.reading.specs.States.{State, Control, Word, Command, Documents, assigned, calm, in_mode, set_word, region_of, textual, top_of}
-use Rattle.reading.specs.Steps.{Step, Move, done, does, refuse, plainly, ◌then◌}
-use Rattle.reading.specs.Text.{in_command, in_text, in_double, in_single, work, pop, dollar_here, body_goes}
+use Rattle.reading.specs.States.{State, Control, assigned, calm, in_mode, set_word, region_of, textual, top_of}
+use Rattle.reading.specs.Steps.{Step, Move, done, does, refuse, plainly}
+use Rattle.reading.specs.Text.{in_command, in_text, work, pop, dollar_here, body_goes}
 use Rattle.reading.specs.Words.{bare, quoted, reserved, use_here}
 use Rattle.reader.specs.Held.{lays, lays_move}
 use Rattle.reader.specs.Onto.{Sheets, candidate_is, read_on}
 use Rattle.reader.specs.Turns.{candidate_next}
 use Rattle.reader.proofs.Turning.{no_word, own_at_symbol}
-use Rattle.reader.specs.Runs.{is_backslash, is_before_name, is_letter, is_own_work, is_plain, is_quoted_letter, in_quotes, may_be_name, unless_begun, text_run, body_run, run_in, run_of}
+use Rattle.reader.specs.Runs.{is_backslash, is_before_name, is_letter, is_own_work, is_plain, is_quoted_letter, in_quotes, may_be_name, unless_begun, text_run, run_in, run_of}
 use Rattle.reader.specs.declared.runs.Run.{Run}
 use Rattle.reader.specs.declared.runs.Run.TheVariants as run
 

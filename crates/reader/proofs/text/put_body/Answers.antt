@@ -1,5 +1,4 @@
-use Rattle.std.proofs.Common.{◌≡◌, sym, refl, ap, ◌∙◌, arith, rules}
-use Rattle.reader.specs.Held.{result_of}
+use Rattle.std.proofs.Common.{◌∙◌, arith, rules}
 use Rattle.reader.proofs.Letters.{put_on, no_room, all_put}
 use Rattle.reader.proofs.text.put_body.Goals as goal
 

@@ -1,4 +1,4 @@
-use Rattle.std.proofs.Common.{◌≡◌, ℕ, Bool, true, false, Ok, Err, Result, sym, ap, ◌∙◌, arith}
+use Rattle.std.proofs.Common.{◌≡◌, ℕ, Bool, true, Ok, Result, sym, ap, ◌∙◌, arith}
 use Rattle.std.proofs.lemmas.Result.{err_from_is_err_and}
 use Rattle.basics.specs.declared.refusal.Refusal.{Refusal}
 use Rattle.reader.specs.Holding.{state_of}
@@ -12,7 +12,7 @@ returns-in_err-pass_letters g c =
     let i = state_of c.args.self.now.at in
     let s = g.W.Sink.sheet c.args.out.now in
     let a = c.in_err-pass_letters.ensures in
-    let f = err_from_is_err_and c.from-residual.result c.from-residual.ensures.1 in
+    let f = err_from_is_err_and c.from_residual.result c.from_residual.ensures.1 in
     record {
       goes = rw (f.1, f.2) (a.goes ∙ ap (λ (e : Bool). reads_from W g.S.Source.coming g.S.Source.end c.args.source.now (record { escape = e; at = i }) s) (sym c.if-self.false));
       falls = λ q. let z : ◌≡◌ {A = ℕ} 0 1 = cc in absurd (omega arith);

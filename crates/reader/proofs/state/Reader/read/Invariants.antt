@@ -1,5 +1,4 @@
-use Rattle.std.proofs.Common.{◌≡◌, ◌+◌, Bool, true, false, Ok, Err, Result}
-use Rattle.basics.specs.declared.refusal.Refusal.{Refusal}
+use Rattle.std.proofs.Common.{◌≡◌, Ok}
 use Rattle.reader.specs.Holding.{control_of}
 use Rattle.reader.specs.Onto.{sheets}
 use Rattle.reader.specs.Turns.{goes_on, reads_from, still_from, turns_left}

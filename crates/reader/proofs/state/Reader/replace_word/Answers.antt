@@ -1,16 +1,14 @@
-use Rattle.std.proofs.Common.{◌≡◌, ℕ, Bool, true, false, length, Ok, Err, Result, sym, refl, ap, ◌∙◌, arith}
+use Rattle.std.proofs.Common.{◌≡◌, ℕ, Bool, true, false, length, Ok, Err, sym, refl, ap, ◌∙◌, arith}
 use Rattle.std.proofs.lemmas.Result.{err_from_is_err_and}
 use Rattle.aliases.specs.Tables.{aliases_of}
-use Rattle.basics.specs.declared.refusal.Refusal.{Refusal}
 use Rattle.source.specs.Fronts.{coming_of, open_names}
 use Rattle.source.specs.Replacing.{stands_for, replace_answer, replaced_coming, replaced_left, replaced_names}
 use Rattle.source.specs.Symbols.{first}
 use Rattle.reading.specs.declared.act.Act.TheVariants as act
-use Rattle.reading.specs.Moves.{without_word}
 use Rattle.reading.specs.States.{Control}
 use Rattle.reader.specs.Holding.{control_of}
 use Rattle.reader.specs.Onto.{sheets, read_on}
-use Rattle.reader.specs.Turns.{candidate_next, place_next, own, still}
+use Rattle.reader.specs.Turns.{candidate_next, place_next}
 use Rattle.reader.proofs.Turning.{no_alias, not_replaced, fewer_replaced, replaced_goes, replaced_refused, too_many, short_value, same_reading, same_own}
 use Rattle.reader.proofs.state.Reader.replace_word.Goals as goal
 
@@ -65,8 +63,8 @@ returns-in_err-put g c =
     let place : c.place_before-place.result ≡ place_next e (first ss) = c.place_before-place.ensures ∙ (λ i. place_next (c.end_place.ensures i) (c.requires.next_value i)) in
     let said : Ok true ≡ replace_answer o p.left (W.word s) =
     ap (λ (b : Bool). Ok b) (sym c.if-not-branch.false) ∙ c.in_ok-replace.ensures.said ∙ (λ i. replace_answer (stands_for al ns (text i)) p.left (there i)) in
-    let f = err_from_is_err_and c.from-residual-in_err-put.result c.from-residual-in_err-put.ensures.1 in
-    let r : c.from-residual-in_err-put.result ≡ Err c.in_err-put.field-0.0 = rw (f.1, f.2) in
+    let f = err_from_is_err_and c.from_residual-in_err-put.result c.from_residual-in_err-put.ensures.1 in
+    let r : c.from_residual-in_err-put.result ≡ Err c.in_err-put.field-0.0 = rw (f.1, f.2) in
     let put : Err c.in_err-put.field-0.0 ≡ W.written act.Forget (place_next e (first ss)) s = c.in_err-put.ensures ∙ ap (λ n. W.written act.Forget n s) place in
     record {
       goes = rw (f.1, f.2) (replaced_refused W al e ss ns k s cand o p.left c.in_err-put.field-0.0 refl said put);
@@ -90,8 +88,8 @@ returns-in_err-replace g c =
     let cand : candidate_next (first ss) k ≡ true = ap (λ x. candidate_next x k) (sym c.requires.next_value) ∙ c.requires.self_value in
     let text : c.text.result.now ≡ w = c.text.ensures in
     let there : c.word_place-word_place.result ≡ W.word s = c.word_place-word_place.ensures in
-    let f = err_from_is_err_and c.from-residual.result c.from-residual.ensures.1 in
-    let r : c.from-residual.result ≡ Err c.in_err-replace.field-0.0 = rw (f.1, f.2) in
+    let f = err_from_is_err_and c.from_residual.result c.from_residual.ensures.1 in
+    let r : c.from_residual.result ≡ Err c.in_err-replace.field-0.0 = rw (f.1, f.2) in
     let said : Err c.in_err-replace.field-0.0 ≡ replace_answer o p.left (W.word s) =
     c.in_err-replace.ensures.said ∙ (λ i. replace_answer (stands_for al ns (text i)) p.left (there i)) in
     record {

@@ -1,12 +1,10 @@
-use Rattle.std.proofs.Common.{◌≡◌, ℕ, Bool, true, false, length, Ok, Err, Result, sym, refl, ap, ◌∙◌, arith}
-use Rattle.std.proofs.lemmas.Result.{err_from_is_err_and}
+use Rattle.std.proofs.Common.{◌≡◌, Bool, false, length, Ok, Result, sym, ap, ◌∙◌, arith}
 use Rattle.aliases.specs.Tables.{aliases_of}
 use Rattle.basics.specs.declared.refusal.Refusal.{Refusal}
 use Rattle.source.specs.Fronts.{coming_of, open_names}
 use Rattle.source.specs.Symbols.{first}
-use Rattle.reading.specs.States.{Control}
 use Rattle.reader.specs.Holding.{control_of}
-use Rattle.reader.specs.Onto.{sheets, read_on}
+use Rattle.reader.specs.Onto.{sheets}
 use Rattle.reader.specs.Turns.{candidate_next, goes_replaced, own_from, reads_from}
 use Rattle.reader.proofs.Turning.{no_word}
 use Rattle.reader.proofs.state.Reader.turn.Goals as goal

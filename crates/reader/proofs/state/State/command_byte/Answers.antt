@@ -1,4 +1,4 @@
-use Rattle.std.proofs.Common.{◌≡◌, ℕ, Bool, true, false, length, Some, Ok, Err, sym, ap, ◌∙◌, arith}
+use Rattle.std.proofs.Common.{◌≡◌, ℕ, true, length, Some, Err, sym, ap, ◌∙◌, arith}
 use Rattle.std.proofs.lemmas.Result.{err_from_is_err_and}
 use Rattle.aliases.specs.Tables.{aliases_of}
 use Rattle.source.specs.declared.symbol.Sign.TheVariants.{Byte}
@@ -32,8 +32,8 @@ returns-in_err-in_command g c =
     let l : is_own_work (class_of b) i ≡ true = ap (λ (k : Class). is_own_work k i) (sym c.class_of-class.ensures) ∙ sym c.is_own_work.ensures ∙ c.if-not-is_own_work.false in
     let x = in_command (class_of b) b i in
     let at-class = ap (λ (k : Class). lays g.W.Sink.written g.W.Sink.placed q (in_command k b i) s) c.class_of-class.ensures in
-    let f = err_from_is_err_and c.from-residual.result c.from-residual.ensures.1 in
-    let r : c.from-residual.result ≡ Err c.in_err-in_command.field-0.0 = rw (f.1, f.2) in
+    let f = err_from_is_err_and c.from_residual.result c.from_residual.ensures.1 in
+    let r : c.from_residual.result ≡ Err c.in_err-in_command.field-0.0 = rw (f.1, f.2) in
     record {
       goes = rw (f.1, f.2) (letter_refused W al e p.left ss ns i s b q x is (own_no_word b i l) (own_moves g.W.Sink.written g.W.Sink.placed q s b i c.requires.self_value l) c.in_err-in_command.field-0.0 (c.in_err-in_command.ensures ∙ at-class));
       falls = omega arith;

@@ -1,4 +1,4 @@
-use Rattle.std.proofs.Common.{◌≡◌, ℕ, Bool, true, false, length, Some, Ok, Err, sym, ap, ◌∙◌, arith}
+use Rattle.std.proofs.Common.{◌≡◌, ℕ, true, length, Some, Err, sym, ap, ◌∙◌, arith}
 use Rattle.std.proofs.lemmas.Result.{err_from_is_err_and}
 use Rattle.aliases.specs.Tables.{aliases_of}
 use Rattle.source.specs.declared.symbol.Sign.{Sign}
@@ -33,8 +33,8 @@ returns-in_err-bare_here g c =
     let l : is_letter (class_of b) ≡ true = ap (λ (k : Class). is_letter k) (sym c.class_of.ensures) ∙ sym c.is_letter.ensures ∙ c.if-not-is_letter.false in
     let x = bare b WordHere i in
     let a = c.in_err-bare_here.ensures in
-    let f = err_from_is_err_and c.from-residual.result c.from-residual.ensures.1 in
-    let r : c.from-residual.result ≡ Err c.in_err-bare_here.field-0.0 = rw (f.1, f.2) in
+    let f = err_from_is_err_and c.from_residual.result c.from_residual.ensures.1 in
+    let r : c.from_residual.result ≡ Err c.in_err-bare_here.field-0.0 = rw (f.1, f.2) in
     record {
       goes = rw (f.1, f.2) (letter_refused W al e p.left ss ns i s b q x is (bare_no_word b i l) (bare_moves g.W.Sink.written g.W.Sink.placed q s b i c.loop-s.invariant.0 l) c.in_err-bare_here.field-0.0 a.lays ∙ c.loop-s.invariant.1);
       falls = c.loop-s.invariant.2;

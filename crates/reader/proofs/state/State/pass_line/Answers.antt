@@ -1,4 +1,4 @@
-use Rattle.std.proofs.Common.{◌≡◌, ℕ, Bool, true, false, eqb, length, Some, Ok, Err, sym, ap, ◌∙◌, arith}
+use Rattle.std.proofs.Common.{◌≡◌, ℕ, false, eqb, length, Some, Err, sym, ap, ◌∙◌, arith}
 use Rattle.std.proofs.lemmas.Result.{err_from_is_err_and}
 use Rattle.aliases.specs.Tables.{aliases_of}
 use Rattle.source.specs.declared.symbol.Sign.{Sign}
@@ -36,8 +36,8 @@ returns-in_err-body_here g c =
     let l : eqb b newline ≡ false = no_other b newline c.if-b-eq10.false in
     let x = does (Letter (marked mark.Body b)) (done (set_word (in_mode (mode.Body c.args.n line.Other)) i)) in
     let a = c.in_err-body_here.ensures in
-    let f = err_from_is_err_and c.from-residual.result c.from-residual.ensures.1 in
-    let r : c.from-residual.result ≡ Err c.in_err-body_here.field-0.0 = rw (f.1, f.2) in
+    let f = err_from_is_err_and c.from_residual.result c.from_residual.ensures.1 in
+    let r : c.from_residual.result ≡ Err c.in_err-body_here.field-0.0 = rw (f.1, f.2) in
     record {
       goes = rw (f.1, f.2) (letter_refused W al e p.left ss ns i s b q x is (body_no_word b i c.args.n c.loop-s.invariant.0) (body_moves g.W.Sink.written g.W.Sink.placed q s b i c.args.n c.loop-s.invariant.0 l) c.in_err-body_here.field-0.0 a.lays ∙ c.loop-s.invariant.1);
       falls = c.loop-s.invariant.2;

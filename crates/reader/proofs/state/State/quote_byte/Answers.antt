@@ -1,4 +1,4 @@
-use Rattle.std.proofs.Common.{◌≡◌, ℕ, Bool, true, false, eqb, length, Some, Ok, Err, sym, ap, ◌∙◌, arith}
+use Rattle.std.proofs.Common.{◌≡◌, ℕ, false, eqb, length, Some, Err, ap, ◌∙◌, arith}
 use Rattle.std.proofs.lemmas.Result.{err_from_is_err_and}
 use Rattle.aliases.specs.Tables.{aliases_of}
 use Rattle.source.specs.declared.symbol.Sign.TheVariants.{Byte}
@@ -28,8 +28,8 @@ returns-in_err-in_quotes g c =
     let is : Some (symbol (Byte b) q) ≡ first ss = c.requires.place_value in
     let l : eqb b backslash ≡ false = no_other b backslash c.if-b-eq92.false in
     let x = in_quotes c.args.double b i in
-    let f = err_from_is_err_and c.from-residual.result c.from-residual.ensures.1 in
-    let r : c.from-residual.result ≡ Err c.in_err-in_quotes.field-0.0 = rw (f.1, f.2) in
+    let f = err_from_is_err_and c.from_residual.result c.from_residual.ensures.1 in
+    let r : c.from_residual.result ≡ Err c.in_err-in_quotes.field-0.0 = rw (f.1, f.2) in
     record {
       goes = rw (f.1, f.2) (letter_refused W al e p.left ss ns i s b q x is (quoted_no_word b i c.args.double c.requires.self_value) (quote_moves g.W.Sink.written g.W.Sink.placed q s b i c.args.double c.requires.self_value l) c.in_err-in_quotes.field-0.0 c.in_err-in_quotes.ensures);
       falls = omega arith;
