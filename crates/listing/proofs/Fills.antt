@@ -1,5 +1,5 @@
 -- Free slots after a list. Assumes nothing.
-use Rattle.std.proofs.Common.{◌≡◌, ℕ, ◌+◌, ◌-◌, ◌<◌, ◌≤◌, Bool, true, false, cond, ltb, ◌⊎◌, List, [], ◌∷◌, ◌++◌, length, take, drop, replicate, Some, None, Ok, Err, Option, Result, sym, refl, ap, ◌∙◌, inl, inr, arith, length-drop}
+use Rattle.std.proofs.Common.{◌≡◌, ℕ, ◌+◌, ◌-◌, ◌≤◌, Bool, true, false, ltb, List, ◌++◌, length, take, drop, replicate, Some, None, Ok, Err, Option, Result, sym, refl, ap, ◌∙◌, inl, inr, arith, length-drop}
 use borrow.Rule.Slice.PartMut.{put_mid}
 use Rattle.std.proofs.lemmas.List.{append-nil, length-take, take_all, drop_all}
 use Rattle.std.proofs.lemmas.Bool.{cases_lt, lt-ltb}
@@ -12,7 +12,7 @@ use Rattle.listing.specs.declared.record.Record.{Record}
 use Rattle.listing.specs.declared.record.Counts.{Counts}
 use Rattle.reading.specs.Readings.{Aliases}
 use Rattle.reading.specs.Listed.{script_reading}
-use Rattle.listing.specs.Listing.{on_slots, listed_on, Pages, Taken, taken, counts_of, counting, used, no_record, padded, Filled, filled, filling, Within, script_check, unless_refused, Held, held, Left, left, behind, more, after}
+use Rattle.listing.specs.Listing.{on_slots, listed_on, Pages, Taken, taken, counts_of, counting, used, no_record, padded, Filled, filled, filling, Within, script_check, unless_refused, Held, held, Left, left, more, after}
 
 abbrev cleared : {X : Type 0} → ℕ → X → List X → List X
 cleared n z xs = take n xs ++ replicate (length xs - n) z

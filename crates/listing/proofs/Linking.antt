@@ -1,5 +1,5 @@
 -- What the reader leaves as it goes is the reading, laid. Assumes nothing.
-use Rattle.std.proofs.Common.{◌≡◌, ℕ, zero, suc, Bool, true, false, cond, ◌&&◌, List, [], ◌∷◌, ◌++◌, Some, None, Ok, Err, Option, Result, sym, refl, ap, ◌∙◌}
+use Rattle.std.proofs.Common.{◌≡◌, ℕ, zero, suc, Bool, true, false, cond, ◌&&◌, List, [], ◌∷◌, Some, None, Ok, Err, Option, Result, sym, refl, ap, ◌∙◌}
 use Rattle.basics.specs.Checks.{refusal}
 use Rattle.basics.specs.declared.refusal.Refusal.{Refusal}
 use Rattle.basics.specs.declared.refusal.Reason.TheVariants.{TooManyReplacements}
@@ -13,10 +13,10 @@ use Rattle.reading.specs.declared.act.Act.{Act}
 use Rattle.reading.specs.declared.act.Act.TheVariants as does
 use Rattle.reading.specs.declared.act.Fault.{Fault}
 use Rattle.reading.specs.States.{State, Control}
-use Rattle.reading.specs.Steps.{Step, Outcome, went, failed, outcome, Move}
+use Rattle.reading.specs.Steps.{Outcome, went, failed, outcome, Move}
 use Rattle.reading.specs.Moves.{byte, alias_end, end, name, named, without_word}
 use Rattle.reading.specs.Holes as holes
-use Rattle.reading.specs.Laid.{Held, held, and, laid, laid_move, performs, lay}
+use Rattle.reading.specs.Laid.{Held, held, and, laid_move, performs, lay}
 use Rattle.reading.specs.Readings as readings
 use Rattle.reading.specs.Readings.{Aliases, Event, act, hole, Ending, ended, refused, Reading, acts, first, only, Replaced, replaced, valued}
 use Rattle.reading.specs.Placed.{perform, faulty, turn_at, replacing_at, sign_at, placed_to, placed}
@@ -25,7 +25,7 @@ use Rattle.reading.specs.Listed.{Places, Entry, placing, refusal_at, noted}
 use Rattle.reading.proofs.Laying.{at_once}
 use Rattle.reader.specs.Onto.{Sheets, sign_move, names_after, candidate, or_replaced, on_to, read_on}
 use Rattle.listing.specs.Noting.{Noted, beside, entered, acted}
-use Rattle.listing.specs.Laying.{ending, events_laid, laying, noting, left_of}
+use Rattle.listing.specs.Laying.{laying, noting, left_of}
 
 and_and : {X Y Z : Type 0} (r : Result X Refusal) (f : X → Result Y Refusal) (g : Y → Result Z Refusal) → and (and r f) g ≡ and r (λ t. and (f t) g)
 and_and (Ok s) f g = refl

@@ -1,5 +1,5 @@
 -- A list on free slots. Assumes nothing.
-use Rattle.std.proofs.Common.{◌≡◌, ℕ, ◌+◌, ◌-◌, ◌^◌, ◌<◌, ◌≤◌, false, List, [], ◌∷◌, ◌++◌, length, take, drop, Ok, Err, Result, sym, refl, ap, ◌∙◌, arith}
+use Rattle.std.proofs.Common.{◌≡◌, ℕ, ◌+◌, ◌^◌, ◌<◌, ◌≤◌, false, List, [], length, take, Ok, Err, Result, sym, refl, ap, ◌∙◌, arith}
 use Rattle.std.proofs.lemmas.List.{length-take, take-take}
 use Rattle.basics.specs.declared.refusal.Refusal.{Refusal}
 use Rattle.source.specs.declared.symbol.Symbol.{Symbol}
@@ -8,10 +8,9 @@ use Rattle.source.specs.Fronts.{coming_of, open_names}
 use Rattle.aliases.specs.declared.table.AliasTable.{AliasTable}
 use Rattle.aliases.specs.Tables.{aliases_of}
 use Rattle.reading.specs.States.{Control, fresh}
-use Rattle.reading.specs.Items.{forget}
 use Rattle.reading.specs.Laid.{and}
-use Rattle.reading.specs.Readings.{Aliases, Event, Ending, Reading}
-use Rattle.reading.specs.Listed.{Places, Entry, nowhere, reading, script_reading}
+use Rattle.reading.specs.Readings.{Aliases, Reading}
+use Rattle.reading.specs.Listed.{Places, Entry, nowhere, reading}
 use Rattle.reader.specs.Held.{result_of}
 use Rattle.reader.specs.Onto.{Sheets, read_on}
 use Rattle.reader.specs.Turns.{reads_from}
@@ -19,11 +18,11 @@ use Rattle.listing.specs.declared.record.Record.{Record}
 use Rattle.listing.specs.declared.record.Counts.{Counts}
 use Rattle.listing.specs.Noting.{Noted, beside}
 use Rattle.listing.specs.Writing.{Slots, fill, entry, no_hole, without_letters}
-use Rattle.listing.specs.Laying.{laying, noting, left_of}
-use Rattle.listing.specs.Listing.{Pages, blank, on_slots, counts_of, counting, taken}
+use Rattle.listing.specs.Laying.{noting, left_of}
+use Rattle.listing.specs.Listing.{Pages, blank, on_slots, counting, taken}
 use Rattle.listing.proofs.Linking.{reading_is}
 use Rattle.listing.proofs.Views.{View, view, view_of}
-use Rattle.listing.proofs.Sheeting.{events_seen, events_view, Shown, shown, counted, holding, fits_all, all}
+use Rattle.listing.proofs.Sheeting.{events_seen, events_view, Shown, shown, counted, fits_all, all}
 
 -- where a reading begins may be said in other terms
 pub same_start : {S : Type 0} (W : Sheets S) (al bl : Aliases) (e f n m : ℕ) (ss ts : List Symbol) (ns ms : List (List ℕ)) (c : Control) (s t : S) → al ≡ bl → e ≡ f → n ≡ m → ss ≡ ts → ns ≡ ms → s ≡ t → read_on W al e n ss ns c s ≡ read_on W bl f m ts ms c t

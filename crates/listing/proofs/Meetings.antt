@@ -1,12 +1,12 @@
 -- A reading without fault meets each hole of its text. Assumes nothing.
-use Rattle.std.proofs.Common.{◌≡◌, ℕ, zero, suc, List, [], ◌∷◌, ◌++◌, Some, None, Option, sym, refl, ap, ◌∙◌}
+use Rattle.std.proofs.Common.{◌≡◌, ℕ, zero, suc, List, [], ◌∷◌, ◌++◌, Some, None, Option, refl, ap, ◌∙◌}
 use Rattle.basics.specs.declared.refusal.Refusal.{Refusal}
 use Rattle.source.specs.declared.symbol.Sign.{Sign}
 use Rattle.source.specs.declared.symbol.Sign.TheVariants.{Byte, Hole, AliasEnd}
 use Rattle.source.specs.declared.symbol.Symbol.{Symbol}
 use Rattle.source.specs.Symbols.{symbol, bytes_at, aliased}
 use Rattle.source.specs.Replacing.{outer}
-use Rattle.reading.specs.Readings.{Turn, goes, fails, Reader, Aliases, Event, act, hole, Ending, ended, refused, Reading, acts, first, only, Replaced, replaced, or_replaced}
+use Rattle.reading.specs.Readings.{Turn, goes, fails, Reader, Aliases, Event, hole, ended, Reading, acts, first, only, Replaced, replaced, or_replaced}
 use Rattle.reading.specs.Placed.{Placing, perform, faulty, turn_at, replacing_at, sign_at, placed_to, placed}
 use Rattle.reading.specs.Listed.{Entry}
 use Rattle.listing.specs.Laying.{ending}

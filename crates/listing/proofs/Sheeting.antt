@@ -1,5 +1,5 @@
 -- Letters written as they come make the items' letters. Assumes nothing.
-use Rattle.std.proofs.Common.{◌≡◌, ℕ, ◌+◌, ◌-◌, ◌^◌, ◌<◌, ◌≤◌, min, Bool, true, false, cond, ◌&&◌, ◌||◌, ltb, leb, ◌⊎◌, List, [], ◌∷◌, ◌++◌, length, take, Ok, Err, Result, sym, refl, ap, ◌∙◌, inl, inr, arith}
+use Rattle.std.proofs.Common.{◌≡◌, ℕ, ◌+◌, ◌-◌, ◌^◌, ◌<◌, ◌≤◌, min, Bool, true, false, cond, ltb, leb, List, [], ◌∷◌, ◌++◌, length, take, Ok, Err, Result, sym, refl, ap, ◌∙◌, inl, inr, arith}
 use Rattle.std.proofs.lemmas.List.{append-nil, append_assoc, length-append, length-take, length_push, take_all, take-take, take_at, take-append-le, length-take-le}
 use Rattle.std.proofs.lemmas.Bool.{cases_lt, cases_Bool, and_left, and_right, and_from, and_parts, leb-true, cond-true, cond-false, lt-ltb, le-ltb, le-leb, lt-leb}
 use Rattle.basics.specs.Checks.{refusal}
@@ -7,17 +7,15 @@ use Rattle.basics.specs.declared.refusal.Refusal.{Refusal}
 use Rattle.basics.specs.declared.refusal.Reason.TheVariants.{NoRoom}
 use Rattle.tokens.specs.declared.letter.Letter.{Letter}
 use Rattle.tokens.specs.Letters.{letter_number}
-use Rattle.commands.specs.declared.item.Kind.{Kind}
 use Rattle.reading.specs.Items.{Written, letter, item, forget, ItemLetter, known, filled_by}
 use Rattle.reading.specs.Laid.{and}
 use Rattle.reading.specs.Readings.{Event, act, hole, Ending, ended, refused}
 use Rattle.reading.specs.Listed.{Entry, Listed, listed_from}
 use Rattle.listing.specs.declared.record.Record.{Record}
-use Rattle.listing.specs.declared.written.Fill.{Fill}
 use Rattle.listing.specs.Writing.{Slots, fill, entry, no_hole}
 use Rattle.listing.specs.Laying.{ending, events_laid}
 use Rattle.listing.specs.Listing.{Pages, numbers, record_of, put, fits, laid_items}
-use Rattle.listing.proofs.Views.{View, view, view_of, lettered, recorded, given, itemed, lower, forgotten, seen, entry_view}
+use Rattle.listing.proofs.Views.{View, view, view_of, lettered, itemed, lower, forgotten, seen, entry_view}
 
 -- what is seen of events
 abbrev pub events_seen : List (Event Entry) → Ending Refusal → View → Result View Refusal

@@ -1,5 +1,5 @@
 -- Slots as far as they are filled. Assumes nothing.
-use Rattle.std.proofs.Common.{◌≡◌, ℕ, ◌+◌, ◌-◌, ◌^◌, ◌<◌, ◌≤◌, min, Bool, true, false, cond, ◌||◌, ltb, leb, ◌⊎◌, List, [], ◌∷◌, ◌++◌, length, take, set, Ok, Err, Result, sym, refl, ap, ◌∙◌, inl, inr, arith, length-set}
+use Rattle.std.proofs.Common.{◌≡◌, ℕ, ◌+◌, ◌-◌, ◌^◌, ◌<◌, ◌≤◌, min, true, false, cond, ◌||◌, ltb, leb, List, [], ◌∷◌, ◌++◌, length, take, set, Ok, Err, Result, sym, ap, ◌∙◌, inl, inr, arith, length-set}
 use Rattle.std.proofs.lemmas.List.{take_more_set, take-take}
 use Rattle.std.proofs.lemmas.Bool.{cases_lt, cases_Bool, cond_both, cond-true, cond-false, lt-ltb, le-ltb, ltb-true, leb-false, or_parts}
 use Rattle.basics.specs.Checks.{refusal}
@@ -11,7 +11,6 @@ use Rattle.commands.specs.declared.item.Kind.{Kind}
 use Rattle.commands.specs.Kinds.{kind_number, kind_code}
 use Rattle.reading.specs.Items.{Written, letter, item, forget}
 use Rattle.reading.specs.Laid.{and}
-use Rattle.reading.specs.Listed.{Entry}
 use Rattle.listing.specs.declared.record.Record.{Record}
 use Rattle.listing.specs.declared.written.Fill.{Fill}
 use Rattle.listing.specs.Writing.{Slots, fill, with_letter, with_item, without_letters, record_for, entry}
@@ -66,8 +65,8 @@ letter_view l s =
     elim (cases_lt at (length ls)) [
       | inl h ↦
           ap view_of (cond-true (ltb at (length ls)) _ _ (lt-ltb at (length ls) h))
-          ∙ ap (λ ms. view (fill s.fill.count s.fill.first (at + 1) s.fill.full) (take s.fill.count s.records.now) ms (length s.records.now) (length (set ls at x)) s.before s.records.ghost_name s.letters.name) (take_more_set ls at x h)
-          ∙ ap (λ n. view (fill s.fill.count s.fill.first (at + 1) s.fill.full) (take s.fill.count s.records.now) (take at ls ++ (x ∷ [])) (length s.records.now) n s.before s.records.ghost_name s.letters.name) (length-set ls at x)
+          ∙ ap (λ ms. view (fill s.fill.count s.fill.first (at + 1) s.fill.full) (take s.fill.count s.records.now) ms (length s.records.now) (length (set ls at x)) s.before s.records.ghost_name s.letters.ghost_name) (take_more_set ls at x h)
+          ∙ ap (λ n. view (fill s.fill.count s.fill.first (at + 1) s.fill.full) (take s.fill.count s.records.now) (take at ls ++ (x ∷ [])) (length s.records.now) n s.before s.records.ghost_name s.letters.ghost_name) (length-set ls at x)
           ∙ sym (cond-true (ltb at (length ls)) _ _ (lt-ltb at (length ls) h))
       | inr h ↦
           ap view_of (cond-false (ltb at (length ls)) _ _ (le-ltb at (length ls) h))
@@ -84,8 +83,8 @@ item_view k n p s =
       | inr e ↦
           let h : c < length rs = omega (arith, leb-false (length rs) c (or_parts s.fill.full (leb (length rs) c) e).1) in
           ap (λ r. and r (λ t. Ok (view_of t))) (cond-false (s.fill.full || leb (length rs) c) _ _ e)
-          ∙ ap (λ ms. Ok (view (fill (c + 1) s.fill.at s.fill.at s.fill.full) ms (take s.fill.at s.letters.now) (length (set rs c x)) (length s.letters.now) s.before s.records.name s.letters.ghost_name)) (take_more_set rs c x h)
-          ∙ ap (λ m. Ok (view (fill (c + 1) s.fill.at s.fill.at s.fill.full) (take c rs ++ (x ∷ [])) (take s.fill.at s.letters.now) m (length s.letters.now) s.before s.records.name s.letters.ghost_name)) (length-set rs c x)
+          ∙ ap (λ ms. Ok (view (fill (c + 1) s.fill.at s.fill.at s.fill.full) ms (take s.fill.at s.letters.now) (length (set rs c x)) (length s.letters.now) s.before s.records.ghost_name s.letters.ghost_name)) (take_more_set rs c x h)
+          ∙ ap (λ m. Ok (view (fill (c + 1) s.fill.at s.fill.at s.fill.full) (take c rs ++ (x ∷ [])) (take s.fill.at s.letters.now) m (length s.letters.now) s.before s.records.ghost_name s.letters.ghost_name)) (length-set rs c x)
           ∙ sym (cond-false (s.fill.full || leb (length rs) c) _ _ e)
     ]
 

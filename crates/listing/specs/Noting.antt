@@ -1,5 +1,5 @@
 -- The places that are kept in memory, and beside them anything else that a reading leaves. Assumes nothing.
-use Rattle.std.specs.Prelude.{ℕ, List, [], ◌∷◌, drop, Ok, Err, Result}
+use Rattle.std.specs.Prelude.{ℕ, List, [], ◌∷◌, drop, Ok, Result}
 use Rattle.basics.specs.declared.refusal.Refusal.{Refusal}
 use Rattle.reading.specs.declared.act.Act.{Act}
 use Rattle.reading.specs.Laid.{and}

@@ -1,6 +1,6 @@
 -- What the reader writes on the free slots of a sheet. Assumes nothing.
 use Rattle.std.specs.Prelude.{ℕ, ◌+◌, ◌-◌, ◌^◌, min, Bool, true, false, cond, ◌||◌, List, length, Ok, Err, Result, nat_le, nat_lt, slice_set}
-use Rattle.std.specs.Borrow.{Bor}
+use Rattle.std.specs.Borrow.{MutBor}
 use Rattle.basics.specs.Checks.{refusal}
 use Rattle.basics.specs.declared.refusal.Refusal.{Refusal}
 use Rattle.basics.specs.declared.refusal.Reason.TheVariants.{NoRoom}
@@ -19,8 +19,8 @@ use Rattle.listing.specs.Noting.{Noted, beside, places_of}
 pub record Slots : Type 0 where
   pub fill : Fill
   pub before : ℕ
-  pub records : Bor (List Record)
-  pub letters : Bor (List ℕ)
+  pub records : MutBor (List Record)
+  pub letters : MutBor (List ℕ)
 
 abbrev pub slots_of : SheetOutput → Slots
 slots_of o = record { fill = o.fill; before = o.before; records = o.records; letters = o.letters }
@@ -35,8 +35,8 @@ abbrev pub set_fill : Fill → Slots → Slots
 set_fill f s = record { fill = f; before = s.before; records = s.records; letters = s.letters }
 
 -- the same slots with other contents
-abbrev pub holding : {X : Type 0} → List X → Bor (List X) → Bor (List X)
-holding xs r = record { ref_ptr = r.ptr; ghost_name = r.name; now = xs }
+abbrev pub holding : {X : Type 0} → List X → MutBor (List X) → MutBor (List X)
+holding xs r = record { ref_ptr = r.ref_ptr; ghost_name = r.ghost_name; now = xs }
 
 -- one letter more, or there is no slot for it
 abbrev pub with_letter : Letter → Slots → Slots

@@ -1,4 +1,4 @@
-use Rattle.std.proofs.Common.{◌≡◌, ◌+◌, length, take, sym, refl, ap, ◌∙◌, arith}
+use Rattle.std.proofs.Common.{◌≡◌, ◌+◌, length, take, sym, ap, ◌∙◌, arith}
 use Rattle.source.specs.declared.template.TemplateSource.{TemplateSource}
 use Rattle.source.specs.Symbols.{template}
 use Rattle.reader.specs.Held.{result_of}

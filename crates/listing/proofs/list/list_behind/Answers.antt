@@ -1,4 +1,4 @@
-use Rattle.std.proofs.Common.{◌≡◌, sym, refl, ap, ◌∙◌, arith}
+use Rattle.std.proofs.Common.{refl, arith}
 use Rattle.aliases.specs.Tables.{aliases_of}
 use Rattle.listing.specs.Listing.{held}
 use Rattle.listing.proofs.Fills.{past, free, accepted, refused}

@@ -1,4 +1,4 @@
-use Rattle.std.proofs.Common.{◌≡◌, length, sym, refl, ap, ◌∙◌}
+use Rattle.std.proofs.Common.{length, sym, ap, ◌∙◌}
 use Rattle.aliases.specs.Tables.{aliases_of}
 use Rattle.reading.specs.Laid.{and}
 use Rattle.reading.specs.Listed.{script_reading}

@@ -1,5 +1,4 @@
-use Rattle.std.proofs.Common.{◌≡◌, ℕ, List, [], length, take, drop, Ok, Err, sym, refl, ap, ◌∙◌}
-use Rattle.source.specs.declared.symbol.Symbol.{Symbol}
+use Rattle.std.proofs.Common.{length, take, drop, Ok, sym, ap, ◌∙◌}
 use Rattle.source.specs.declared.script.ScriptSource.{ScriptSource}
 use Rattle.source.specs.Symbols.{script}
 use Rattle.aliases.specs.Tables.{aliases_of}
@@ -20,7 +19,7 @@ returns-in-Ok c =
     (c.new-source.ensures.coming ∙ ap (λ k. script (drop k c.new.result.text.now) k) c.new.ensures.at ∙ ap (λ x. script (drop 0 x) 0) c.new.ensures.text)
     (c.new-source.ensures.end ∙ ap length c.new.ensures.text)
     c.new-source.ensures.names c.new-source.ensures.left c.new-2.ensures in
-    accepted _ _ _ _ _ c.requires (script_reading (aliases_of c.args.aliases.now).named s) t _ _ c.records·1.given.1.1 c.letters·1.given.1.1
+    accepted _ _ _ _ _ c.requires (script_reading (aliases_of c.args.aliases.now).named s) t _ _ c.records-1.given.1.1 c.letters-1.given.1.1
     (ap (λ r. and (result_of r t) (λ u. Ok (view_of u))) (sym c.in-Ok.is) ∙ seen)
 
 pub returns-in-Err : goal.returns-in-Err

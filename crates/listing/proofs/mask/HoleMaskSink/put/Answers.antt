@@ -1,4 +1,4 @@
-use Rattle.std.proofs.Common.{Ok, sym, ap, ◌∙◌, rules}
+use Rattle.std.proofs.Common.{Ok, sym, ap, ◌∙◌}
 use Rattle.listing.specs.Noting.{beside}
 use Rattle.listing.specs.Masks.{mask_of}
 use Rattle.listing.proofs.Keeping.{notes}
