@@ -1,9 +1,8 @@
 -- What was escaped is given back. Assumes nothing.
-use Rattle.std.proofs.Common.{◌≡◌, ℕ, ◌+◌, ◌*◌, ◌/◌, ◌%◌, ◌<◌, Bool, true, false, cond, ◌≢◌, List, [], ◌∷◌, ◌++◌, Some, None, Option, sym, refl, ap, ◌∙◌, arith, rules}
-use Rattle.std.specs.List.{AllByRecursion}
-use Rattle.journal.specs.declared.unescape.Place.TheVariants.{Outside, Percent, High}
-use Rattle.journal.specs.declared.unescape.Piece.TheVariants.{Leads, Gives, Bad}
-use Rattle.journal.specs.Escapes.{percent, is_plain, digit, escaped_byte, escaped, digit_value, first_digit, second_digit, piece, pieced, unescaped_from, unescaped, with_byte, EscapesComeBack}
+use Rattle.std.proofs.Common.{◌≡◌, ℕ, ◌+◌, ◌*◌, ◌/◌, ◌%◌, ◌<◌, Bool, true, false, cond, List, [], ◌∷◌, ◌++◌, Some, refl, ap, ◌∙◌, arith, rules}
+use Rattle.journal.specs.declared.unescape.Place.TheVariants.{Outside}
+use Rattle.journal.specs.declared.unescape.Piece.TheVariants.{Gives}
+use Rattle.journal.specs.Escapes.{percent, is_plain, digit, escaped, digit_value, first_digit, second_digit, piece, pieced, unescaped_from, with_byte, EscapesComeBack}
 
 digit_back : (n : ℕ) → n < 16 → digit_value (digit n) ≡ Some n
 digit_back n h = search rules

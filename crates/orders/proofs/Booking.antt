@@ -1,5 +1,5 @@
 -- What the books of two states share. Assumes nothing.
-use Rattle.std.proofs.Common.{◌≡◌, ℕ, ◌≤◌, Bool, true, false, ltb, List, length, is_some, Some, None, Ok, Err, Option, Result, sym, refl, ap, ◌∙◌, arith, ltb-false}
+use Rattle.std.proofs.Common.{◌≡◌, ℕ, ◌≤◌, Bool, true, false, ltb, List, length, is_some, Some, None, Ok, Option, Result, refl, ap, arith, ltb-false}
 use Rattle.basics.specs.Checks.{refuse_if, or_else, unless, answer}
 use Rattle.basics.specs.declared.refusal.Refusal.{Refusal}
 use Rattle.basics.specs.declared.refusal.Reason.TheVariants.{TooLong, TemplateLoaded}

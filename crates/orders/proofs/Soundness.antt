@@ -1,5 +1,5 @@
 -- The book of any calls is sound. Assumes nothing.
-use Rattle.std.proofs.Common.{◌≡◌, ℕ, ◌+◌, ◌≤◌, Bool, true, false, cond, not, eqb, ltb, List, [], ◌∷◌, length, is_some, Some, None, Ok, Err, Option, Result, sym, refl, ap, ◌∙◌, subst, arith, ltb-false}
+use Rattle.std.proofs.Common.{◌≡◌, ℕ, ◌+◌, ◌≤◌, Bool, true, false, cond, not, eqb, ltb, List, [], ◌∷◌, length, is_some, Some, None, Option, sym, refl, ap, ◌∙◌, subst, arith, ltb-false}
 use Rattle.std.proofs.lemmas.Bool.{eqb-true, eqb-false}
 use Rattle.basics.specs.Bytes.{ZeroFree}
 use Rattle.basics.specs.Checks.{refuse_if, refuse_at, or_else, unless}
@@ -9,7 +9,6 @@ use Rattle.basics.specs.declared.refusal.Reason.{Reason}
 use Rattle.basics.specs.declared.refusal.Reason.TheVariants.{TooLong, ZeroByte, NoSuchHole}
 use Rattle.std.specs.Map.{update}
 use Rattle.aliases.specs.Aliases.{Aliases, no_aliases, define_check, defined, remove_check, removed}
-use Rattle.reading.specs.Readings as readings
 use Rattle.reading.specs.Readings.{Ending, ended, refused}
 use Rattle.reading.specs.Filled.{Well, Accepted}
 use Rattle.reading.specs.Listed.{template_reading}
@@ -107,10 +106,10 @@ module _ (b : Book) (s : Sound b) where
   -- one more text, of which P holds as of the others
   with_text : (P : ℕ → List ℕ → Type 0) (d : ℕ) (text : List ℕ) → P d text → ((e : ℕ) (u : List ℕ) → b.texts e ≡ Some u → P e u)
       → (e : ℕ) (u : List ℕ) → update eqb b.texts d (Some text) e ≡ Some u → P e u
-  with_text P d text p rest e u h = by_digit (eqb e d) refl h
+  with_text P d text p rest e u h = by_digit (eqb d e) refl h
     where
-      by_digit : (t : Bool) → eqb e d ≡ t → cond t (Some text) (b.texts e) ≡ Some u → P e u
-      by_digit true q r = let same : text ≡ u = cc in subst (λ (x : List ℕ). P e x) same (subst (λ (n : ℕ). P n text) (sym (eqb-true e d q)) p)
+      by_digit : (t : Bool) → eqb d e ≡ t → cond t (Some text) (b.texts e) ≡ Some u → P e u
+      by_digit true q r = let same : text ≡ u = cc in subst (λ (x : List ℕ). P e x) same (subst (λ (n : ℕ). P n text) (eqb-true d e q) p)
       by_digit false q r = rest e u r
 
   bound_with : (d : ℕ) (text : List ℕ) → bind_check b d text ≡ None → Sound (record { aliases = b.aliases; loaded = b.loaded; texts = update eqb b.texts d (Some text) })

@@ -1,5 +1,5 @@
 -- What holds of the book of any calls. Assumes nothing.
-use Rattle.std.specs.Prelude.{◌≡◌, ℕ, ◌≤◌, true, List, length, Some, None}
+use Rattle.std.specs.Prelude.{◌≡◌, ℕ, ◌≤◌, true, List, length, Some}
 use Rattle.basics.specs.Bytes.{ZeroFree}
 use Rattle.reading.specs.Filled.{Accepted}
 use Rattle.reading.specs.Listed.{template_reading}

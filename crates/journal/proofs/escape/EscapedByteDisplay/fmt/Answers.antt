@@ -1,4 +1,4 @@
-use Rattle.std.proofs.Common.{◌≡◌, ◌/◌, ◌%◌, ◌<◌, true, false, sym, ◌∙◌, subst, rules}
+use Rattle.std.proofs.Common.{◌≡◌, ◌/◌, ◌%◌, ◌<◌, true, false, ◌∙◌, subst, rules}
 use Rattle.std.specs.Fmt.{HasWritten}
 use Rattle.journal.specs.Escapes.{is_plain, digit}
 use Rattle.journal.proofs.Shown.{plain_shown, escape_shown}

@@ -1,4 +1,4 @@
-use Rattle.std.proofs.Common.{◌≡◌, sym, refl, ap, ◌∙◌, rules}
+use Rattle.std.proofs.Common.{sym, ap, ◌∙◌}
 use Rattle.basics.specs.Checks.{answer, unless}
 use Rattle.aliases.specs.Aliases.{define_check, defined}
 use Rattle.aliases.specs.Tables.{aliases_of}

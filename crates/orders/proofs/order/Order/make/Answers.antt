@@ -1,4 +1,4 @@
-use Rattle.std.proofs.Common.{◌≡◌, sym, refl, ap, ◌∙◌}
+use Rattle.std.proofs.Common.{sym, refl, ap, ◌∙◌}
 use Rattle.listing.specs.Listing.{Left, held_of}
 use Rattle.orders.specs.declared.call.Call.{Call}
 use Rattle.orders.specs.Book.{alias_check, load_check, next}

@@ -1,9 +1,7 @@
-use Rattle.std.proofs.Common.{◌≡◌, ℕ, ◌<◌, ◌≤◌, List, length, get_or, set, sym, refl, ap, ◌∙◌, arith}
+use Rattle.std.proofs.Common.{ℕ, List, get_or, set, refl, ap, ◌∙◌}
 use Rattle.listing.specs.Listing.{held_of}
-use Rattle.orders.specs.declared.outcome.Outcome.{Outcome}
-use Rattle.orders.specs.Book.{Book}
 use Rattle.orders.specs.Holding.{book_of}
-use Rattle.orders.specs.Desk.{Desk, desk, said, desk_next}
+use Rattle.orders.specs.Desk.{desk, said, desk_next}
 use Rattle.orders.specs.Requests.{request_of}
 use Rattle.orders.proofs.Running.{begins, goes, ends_book, ends_desk, ends_said}
 use Rattle.orders.proofs.order.Order.run.Goals as goal
