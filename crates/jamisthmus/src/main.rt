@@ -5,10 +5,10 @@
 mod command;
 mod input;
 mod quoting_commands;
-mod reading;
 mod reading_commands;
 mod replay;
 mod runs;
+mod sheets;
 
 use command::{Command, HELP, HELP_ALL};
 use quoting_commands::{quote, unquote};

@@ -1,8 +1,8 @@
 // list and check.
 use crate::command::Text;
 use crate::input::read_text;
-use crate::reading;
-use crate::reading::{MOST_LETTERS, MOST_RECORDS};
+use crate::sheets;
+use crate::sheets::{MOST_LETTERS, MOST_RECORDS};
 use json_lines::{JsonHoles, JsonItems, JsonRefusal};
 use listing::check::check_template;
 use views::caret::Pointed;
@@ -11,7 +11,7 @@ use views::table::Table;
 
 pub fn list(rt: &HostRuntime, text: &Text) -> anyhow::Result<()> {
     let script = read_text(rt, &text.file)?;
-    match reading::list(
+    match sheets::list(
         rt.alloc(),
         script.as_slice(),
         &text.aliases,

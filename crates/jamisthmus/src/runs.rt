@@ -1,5 +1,5 @@
 // Calls of a journal, made on an order in runs. A run ends with a list, which wants a sheet of its own size.
-use crate::reading::{MOST_LETTERS, MOST_RECORDS};
+use crate::sheets::{MOST_LETTERS, MOST_RECORDS};
 use journal::answers::{Outcome as Answer, Records};
 use journal::call::Call;
 use journal::listed::Listed;
