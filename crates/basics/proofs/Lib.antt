@@ -1,4 +1,3 @@
-pub mod Found
 pub mod Answered
 pub mod Over
 pub mod Stacking

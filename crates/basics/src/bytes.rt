@@ -1,4 +1,4 @@
-// Questions about bytes.
+// Counts of bytes, and lengths as a `usize` tells them.
 ghost use Rattle.std.specs.Prelude.{◌≡◌};
 ghost use Rattle.basics.specs.Bytes.{occurrences, told};
 
@@ -6,20 +6,12 @@ ghost use Rattle.basics.specs.Bytes.{occurrences, told};
 pub fn count(text: &[u8], byte: u8) -> usize
     ensures { result ≡ occurrences byte text.now }
 {
-    let mut n: usize = 0;
-    for b in text {
-        n += (*b == byte) as usize;
-    }
-    n
+    text.iter().filter(|b| **b == byte).count()
 }
 
 // A length as a `usize` tells it: the largest number stands for all that is longer.
 pub fn tell(length: u128) -> usize
     ensures { result ≡ told length }
 {
-    if length < usize::MAX as u128 {
-        length as usize
-    } else {
-        usize::MAX
-    }
+    usize::try_from(length).unwrap_or(usize::MAX)
 }

@@ -1,5 +1,6 @@
 // Refusals: why a call was turned away, in which layer, and at which place.
 ghost use Rattle.std.specs.Prelude.{◌≡◌, Some};
+ghost use Rattle.basics.specs.Checks.{refusal};
 ghost use Rattle.basics.specs.Refusals.{number_of, layer_of, layer_number, words_of, shown_of};
 
 use std::fmt;
@@ -7,75 +8,61 @@ use std::fmt;
 // Why a call was refused. The first thirteen reasons lie in the input, the others in the state of an order.
 #[derive(Clone, Copy, Debug, PartialEq, Eq)]
 pub enum Reason {
-    TooLong,
-    ZeroByte,
-    BadAlias,
-    BadHole,
-    OpenQuote,
-    ExpansionNotTaken,
-    TooDeep,
-    HoleNotTaken,
-    OutOfPlace,
-    Unfinished,
-    HereDocument,
-    NoRoom,
-    TooManyReplacements,
-    TemplateLoaded,
-    NoTemplate,
-    TooManyAliases,
-    NoSuchAlias,
-    Unbound,
-    NoSuchHole,
-    ScriptTooLong,
+    TooLong = 1,
+    ZeroByte = 2,
+    BadAlias = 3,
+    BadHole = 4,
+    OpenQuote = 6,
+    ExpansionNotTaken = 7,
+    TooDeep = 9,
+    HoleNotTaken = 10,
+    OutOfPlace = 11,
+    Unfinished = 13,
+    HereDocument = 14,
+    NoRoom = 15,
+    TooManyReplacements = 16,
+    TemplateLoaded = 21,
+    NoTemplate = 22,
+    TooManyAliases = 23,
+    NoSuchAlias = 24,
+    Unbound = 25,
+    NoSuchHole = 26,
+    ScriptTooLong = 27,
 }
 
 // The layer that refuses: where symbols come from, where they make tokens, where tokens make commands, and the order above them.
 #[derive(Clone, Copy, Debug, PartialEq, Eq)]
 pub enum Layer {
-    Source,
-    Token,
-    Command,
-    Order,
+    Source = 1,
+    Token = 2,
+    Command = 3,
+    Order = 4,
 }
 
-impl Layer {
-    pub fn number(self) -> u8
-        ensures { result ≡ layer_number self }
-    {
-        match self {
-            Layer::Source => 1,
-            Layer::Token => 2,
-            Layer::Command => 3,
-            Layer::Order => 4,
-        }
+impl From<Layer> for u8 {
+    ghost from_gives = { λ layer n. n ≡ layer_number layer };
+
+    fn from(layer: Layer) -> u8 {
+        layer as u8
+    }
+}
+
+impl From<Reason> for u8 {
+    ghost from_gives = { λ reason n. n ≡ number_of reason };
+
+    fn from(reason: Reason) -> u8 {
+        reason as u8
     }
 }
 
 impl Reason {
-    pub fn number(self) -> u8
-        ensures { result ≡ number_of self }
+    // A refusal for this reason at a place in the input (0 where it is about none).
+    pub fn at(self, place: usize) -> Refusal
+        ensures { result ≡ refusal self place }
     {
-        match self {
-            Reason::TooLong => 1,
-            Reason::ZeroByte => 2,
-            Reason::BadAlias => 3,
-            Reason::BadHole => 4,
-            Reason::OpenQuote => 6,
-            Reason::ExpansionNotTaken => 7,
-            Reason::TooDeep => 9,
-            Reason::HoleNotTaken => 10,
-            Reason::OutOfPlace => 11,
-            Reason::Unfinished => 13,
-            Reason::HereDocument => 14,
-            Reason::NoRoom => 15,
-            Reason::TooManyReplacements => 16,
-            Reason::TemplateLoaded => 21,
-            Reason::NoTemplate => 22,
-            Reason::TooManyAliases => 23,
-            Reason::NoSuchAlias => 24,
-            Reason::Unbound => 25,
-            Reason::NoSuchHole => 26,
-            Reason::ScriptTooLong => 27,
+        Refusal {
+            reason: self,
+            place,
         }
     }
 
@@ -130,12 +117,6 @@ pub struct Refusal {
 }
 
 impl Refusal {
-    pub fn number(self) -> u8
-        ensures { result ≡ number_of self.reason }
-    {
-        self.reason.number()
-    }
-
     pub fn layer(self) -> Layer
         ensures { result ≡ layer_of self.reason }
     {
@@ -154,8 +135,8 @@ impl fmt::Display for Refusal {
     ghost output = { λ x. Some (shown_of x) };
 
     fn fmt<W: fmt::Write>(&self, f: &mut fmt::Formatter<W>) -> fmt::Result {
-        let number = self.number();
-        let layer = self.layer().number();
+        let number = u8::from(self.reason);
+        let layer = u8::from(self.layer());
         let place = self.place;
         let words = self.words();
         write!(f, "{number} {layer} {place} {words}")

@@ -1,18 +1,35 @@
 // A stack in an array, for every element and size. It grows towards the array's start, so that what it holds, the top first, is a rest of the array.
-ghost use Rattle.std.specs.Prelude.{◌≡◌, ◌+◌, ◌-◌, ◌<◌, ◌≤◌, [], ◌∷◌, length, drop, if◌then◌else◌, nat_lt};
+ghost use Rattle.std.specs.Prelude.{◌≡◌, ◌↔◌, ◌<◌, ◌≤◌, List, [], ◌∷◌, length, IsOk, OnOk, OnErr};
 ghost use Rattle.basics.specs.Stacks.{top, below};
 
+use std::marker::Model;
+
+// In contracts a stack is the list of what it holds, the top first.
+// Stays: an array and where it begins, since the methods of an `ArrayVec` want elements that are `Drop`, which not every `Copy` is known to be.
 #[derive(Drop)]
 pub struct Stack<T, const N: usize> {
     held: [T; N],
     from: usize,
-    ghost within: { (from ≤ N) × (length held ≡ N) },
 }
+
+impl<T, const N: usize> Model for Stack<T, N> {
+    ghost use Rattle.std.specs.Prelude.{◌≡◌, ◌≤◌, List, length, drop};
+
+    ghost Value = { List T };
+
+    ghost view = { λ s. drop s.from s.held };
+
+    ghost invariant = { λ s. (s.from ≤ N) × (length s.held ≡ N) };
+}
+
+// The stack holds as many as it can.
+#[derive(Clone, Copy, Debug, PartialEq, Eq)]
+pub struct Full;
 
 impl<T: Copy, const N: usize> Stack<T, N> {
     // An empty stack; `fill` is what the array holds where the stack holds nothing.
     pub fn new(fill: T) -> Self
-        ensures { drop result.from result.held ≡ [] }
+        ensures { result ≡ [] }
     {
         Stack {
             held: [fill; N],
@@ -21,38 +38,36 @@ impl<T: Copy, const N: usize> Stack<T, N> {
     }
 
     pub fn top(&self) -> Option<T>
-        ensures { result ≡ top (drop self.now.from self.now.held) }
+        ensures { result ≡ top self.now }
     {
-        if self.from < N {
-            Some(self.held[self.from])
-        } else {
-            None
-        }
+        self.held.get(self.from).copied()
     }
 
     // How many it holds.
     pub fn depth(&self) -> usize
-        ensures { result ≡ length (drop self.now.from self.now.held) }
+        ensures value { result ≡ length self.now }
+        ensures fits { result ≤ N }
     {
         N - self.from
     }
 
-    // Puts one on top, unless the stack is full, and says whether it did.
-    pub fn push(&mut self, x: T) -> bool
-        ensures fits { result ≡ nat_lt (length (drop self.old.from self.old.held)) N }
-        ensures held { drop self.new.from self.new.held ≡ (if result then x ∷ drop self.old.from self.old.held else drop self.old.from self.old.held) }
+    // Puts one on top, unless the stack is full.
+    pub fn push(&mut self, x: T) -> Result<(), Full>
+        ensures fits { IsOk result ↔ (length self.old < N) }
+        ensures held { OnOk result (self.new ≡ x ∷ self.old) }
+        ensures kept { OnErr result (self.new ≡ self.old) }
     {
         if self.from == 0 {
-            return false;
+            return Err(Full);
         }
         self.from -= 1;
         self.held[self.from] = x;
-        true
+        Ok(())
     }
 
     // Takes the top one off, if there is one.
     pub fn pop(&mut self)
-        ensures { drop self.new.from self.new.held ≡ below (drop self.old.from self.old.held) }
+        ensures { self.new ≡ below self.old }
     {
         if self.from < N {
             self.from += 1;

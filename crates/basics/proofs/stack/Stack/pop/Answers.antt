@@ -1,9 +1,7 @@
-use Rattle.std.proofs.Common.{arith}
-use Rattle.basics.proofs.Stacking.{pop, pop_none}
+use Rattle.std.proofs.Common.{drop, sym, ◌∙◌}
+use Rattle.std.proofs.lemmas.List.{drop-drop}
+use Rattle.basics.proofs.Stacking.{below_is_rest}
 use Rattle.basics.proofs.stack.Stack.pop.Goals as goal
 
 pub returns-then-self : goal.returns-then-self
-returns-then-self g c = pop c.args.self.now.held c.args.self.now.from (omega arith)
-
-pub returns-else-self : goal.returns-else-self
-returns-else-self g c = pop_none c.args.self.now.held c.args.self.now.from (omega arith)
+returns-then-self g c = rw (← c.self.view_is) (sym (below_is_rest (drop c.self.inside.from c.self.inside.held) ∙ drop-drop 1 c.self.inside.from c.self.inside.held))
