@@ -1,3 +1,3 @@
-pub mod Lookups
+pub mod Found
 pub mod Changes
 pub mod Defined

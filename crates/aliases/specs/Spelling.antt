@@ -1,5 +1,6 @@
 -- How the names and the values of aliases are spelled, and the refusals of others. Assumes nothing.
-use Rattle.std.specs.Prelude.{ℕ, Bool, false, not, ◌&&◌, ◌||◌, List, [], ◌∷◌, length, is_some, codes, Option, ◌==◌, nat_le, nat_lt}
+use Rattle.std.specs.Prelude.{ℕ, Bool, false, not, ◌&&◌, ◌||◌, List, [], ◌∷◌, length, codes, Option, ◌==◌, nat_le, nat_lt}
+use Rattle.std.specs.List.{list_all}
 use Rattle.basics.specs.Searches.{first_where}
 use Rattle.basics.specs.Checks.{refuse_if, refuse_at, or_else}
 use Rattle.basics.specs.declared.refusal.Refusal.{Refusal}
@@ -45,7 +46,7 @@ name_check name = or_else (refuse_at (first_where (λ b. not (is_name_byte b)) n
 abbrev pub value_check : List ℕ → Option Refusal
 value_check value =
     or_else (refuse_at (first_where (λ b. not (is_value_byte b)) value) BadAlias)
-    (refuse_if (not (is_some (first_where (λ b. not (is_blank b)) value))) BadAlias 0)
+    (refuse_if (list_all is_blank value) BadAlias 0)
 
 -- what is checked of a name and a value alone, in this order
 abbrev pub spelling_check : List ℕ → List ℕ → Option Refusal

@@ -1,5 +1,5 @@
 -- What an alias table stands for. Assumes nothing.
-use Rattle.std.specs.Prelude.{ℕ, List, take, Some, None, Option}
+use Rattle.std.specs.Prelude.{ℕ, List, length, Some, None, Option}
 use Rattle.std.specs.Borrow.{Bor}
 use Rattle.aliases.specs.declared.alias.Alias.{Alias}
 use Rattle.aliases.specs.declared.table.AliasTable.{AliasTable}
@@ -8,11 +8,11 @@ use Rattle.aliases.specs.Rows.{look_up}
 
 -- the aliases that it holds, in a row
 abbrev pub rows : AliasTable → List Alias
-rows t = take t.count t.slots
+rows t = t
 
 -- the aliases that it means
 abbrev pub aliases_of : AliasTable → Aliases
-aliases_of t = record { named = look_up (rows t); count = t.count }
+aliases_of t = record { named = look_up (rows t); count = length (rows t) }
 
 -- the bytes that are lent, if any
 abbrev pub lent : Option (Bor (List ℕ)) → Option (List ℕ)

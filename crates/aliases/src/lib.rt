@@ -2,21 +2,16 @@
 #![tactic(auto)]
 
 pub mod alias;
-pub mod calls;
-mod kept;
 mod spelling;
 pub mod table;
 
 #[cfg(test)]
 mod tests {
     use crate::table::AliasTable;
-    use basics::refusal::{Reason, Refusal};
+    use basics::refusal::Reason;
 
     fn stands_for(table: &AliasTable, name: &[u8], value: &[u8]) -> bool {
-        match table.look_up(name) {
-            Some(v) => v == value,
-            None => false,
-        }
+        table.look_up(name) == Some(value)
     }
 
     #[test]
@@ -34,41 +29,14 @@ mod tests {
     #[test]
     fn refuses(rt: HostRuntime) {
         let mut table = AliasTable::new();
-        assert_eq!(rt;
-            table.define(b"a b", b"c"),
-            Err(Refusal {
-                reason: Reason::BadAlias,
-                place: 1,
-            })
-        );
-        assert_eq!(rt;
-            table.define(b"a", b"c;"),
-            Err(Refusal {
-                reason: Reason::BadAlias,
-                place: 1,
-            })
-        );
-        assert_eq!(rt;
-            table.define(b"a", b" \t"),
-            Err(Refusal {
-                reason: Reason::BadAlias,
-                place: 0,
-            })
-        );
+        assert_eq!(rt; table.define(b"a b", b"c"), Err(Reason::BadAlias.at(1)));
+        assert_eq!(rt; table.define(b"a", b"c;"), Err(Reason::BadAlias.at(1)));
+        assert_eq!(rt; table.define(b"a", b" \t"), Err(Reason::BadAlias.at(0)));
         assert_eq!(rt;
             table.define(b"a2345678901234567", b""),
-            Err(Refusal {
-                reason: Reason::TooLong,
-                place: 0,
-            })
+            Err(Reason::TooLong.at(0))
         );
-        assert_eq!(rt;
-            table.remove(b"a"),
-            Err(Refusal {
-                reason: Reason::NoSuchAlias,
-                place: 0,
-            })
-        );
+        assert_eq!(rt; table.remove(b"a"), Err(Reason::NoSuchAlias.at(0)));
     }
 
     #[test]
@@ -77,13 +45,7 @@ mod tests {
         for name in [b"a", b"b", b"c", b"d", b"e", b"f", b"g", b"h"] {
             assert!(rt; table.define(name, b"v").is_ok());
         }
-        assert_eq!(rt;
-            table.define(b"i", b"v"),
-            Err(Refusal {
-                reason: Reason::TooManyAliases,
-                place: 0,
-            })
-        );
+        assert_eq!(rt; table.define(b"i", b"v"), Err(Reason::TooManyAliases.at(0)));
         assert!(rt; table.define(b"h", b"w").is_ok());
     }
 }

@@ -1,3 +1,3 @@
 pub mod Templates
-pub mod Fronted
-pub mod Replaced
+pub mod Opened
+pub mod Open

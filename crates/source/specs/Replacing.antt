@@ -1,5 +1,6 @@
 -- Words that are replaced by the values of aliases. Assumes nothing.
-use Rattle.std.specs.Prelude.{ℕ, zero, suc, Bool, true, false, cond, ◌||◌, List, [], ◌∷◌, Some, None, Ok, Err, Option, Result}
+use Rattle.std.specs.Prelude.{ℕ, zero, suc, Bool, true, false, cond, List, [], ◌∷◌, Some, None, Ok, Err, Option, Result}
+use Rattle.std.specs.List.{list_any}
 use Rattle.std.specs.Str.{bytes_eq}
 use Rattle.basics.specs.Checks.{refusal}
 use Rattle.basics.specs.declared.refusal.Refusal.{Refusal}
@@ -9,8 +10,7 @@ use Rattle.source.specs.declared.symbol.Symbol.{Symbol}
 use Rattle.source.specs.Symbols.{aliased}
 
 abbrev pub is_listed : List ℕ → List (List ℕ) → Bool
-is_listed n [] = false
-is_listed n (m ∷ ms) = bytes_eq n m || is_listed n ms
+is_listed n ns = list_any (bytes_eq n) ns
 
 -- the value that a word stands for: its alias's, unless the end of that alias is still to come
 abbrev pub stands_for : (List ℕ → Option (List ℕ)) → List (List ℕ) → List ℕ → Option (List ℕ)

@@ -2,12 +2,10 @@
 #![tactic(auto)]
 
 pub mod alias;
-pub mod replace;
 pub mod script;
 pub mod source;
 pub mod symbol;
 pub mod template;
-mod text;
 
 #[cfg(test)]
 mod tests {

@@ -4,7 +4,7 @@ ghost use Rattle.source.specs.Symbols.{script};
 
 use crate::source::Source;
 use crate::symbol::{Sign, Symbol};
-use crate::text::front;
+use basics::slices::up_to;
 
 // The most bytes that a script may have.
 pub const SCRIPT_LIMIT: usize = 4096;
@@ -23,7 +23,7 @@ impl<'a> ScriptSource<'a> {
         ensures at { result.at ≡ 0 }
     {
         ScriptSource {
-            text: front(text, SCRIPT_LIMIT),
+            text: up_to(text, SCRIPT_LIMIT),
             at: 0,
         }
     }
@@ -35,14 +35,11 @@ impl Source for ScriptSource<'_> {
     ghost end = { λ s. length s.text.now };
 
     fn look(&self) -> Option<Symbol> {
-        if self.at < self.text.len() {
-            Some(Symbol {
-                sign: Sign::Byte(self.text[self.at]),
-                place: self.at as u16,
-            })
-        } else {
-            None
-        }
+        let byte = self.text.get(self.at)?;
+        Some(Symbol {
+            sign: Sign::Byte(*byte),
+            place: self.at as u16,
+        })
     }
 
     fn take(&mut self) {

@@ -4,7 +4,7 @@ ghost use Rattle.source.specs.Symbols.{template, first_sign, width_first, hole_s
 
 use crate::source::Source;
 use crate::symbol::{Sign, Symbol};
-use crate::text::front;
+use basics::slices::{behind, up_to};
 
 // The most bytes that a template may have.
 pub const TEMPLATE_LIMIT: usize = 1024;
@@ -22,6 +22,7 @@ fn cut(text: &[u8]) -> (Option<Sign>, &[u8])
 }
 
 // Whether `@{` stands first, and begins no hole.
+// Stays: three arms that read as the rule does; `matches!` would need another within it.
 fn is_spoiled(text: &[u8]) -> bool
     ensures { result ≡ hole_spoiled text.now }
 {
@@ -36,12 +37,7 @@ fn is_spoiled(text: &[u8]) -> bool
 pub fn first_bad_hole(template: &[u8]) -> Option<usize>
     ensures { result ≡ first_bad_hole template.now }
 {
-    for i in 0..template.len() {
-        if is_spoiled(&template[i..]) {
-            return Some(i);
-        }
-    }
-    None
+    (0..template.len()).find(|i| is_spoiled(behind(template, *i)))
 }
 
 #[derive(Drop)]
@@ -58,7 +54,7 @@ impl<'a> TemplateSource<'a> {
         ensures at { result.at ≡ 0 }
     {
         TemplateSource {
-            rest: front(text, TEMPLATE_LIMIT),
+            rest: up_to(text, TEMPLATE_LIMIT),
             at: 0,
         }
     }
@@ -70,13 +66,9 @@ impl Source for TemplateSource<'_> {
     ghost end = { λ s. s.at + length s.rest.now };
 
     fn look(&self) -> Option<Symbol> {
-        match cut(self.rest).0 {
-            Some(sign) => Some(Symbol {
-                sign,
-                place: self.at as u16,
-            }),
-            None => None,
-        }
+        let (sign, _) = cut(self.rest);
+        let place = self.at as u16;
+        sign.map(|sign| Symbol { sign, place })
     }
 
     fn take(&mut self) {

@@ -1,20 +1,11 @@
-use Rattle.std.proofs.Common.{sym, ap, ◌∙◌, arith}
-use Rattle.std.proofs.lemmas.List.{take_rest}
+use Rattle.std.proofs.Common.{◌≡◌, true, false, drop, rules, of_calls}
+use Rattle.std.proofs.lemmas.Iterator.{first_from_Range}
 use Rattle.source.specs.Symbols.{hole_spoiled}
-use Rattle.source.proofs.Templates.{found, passed, ended}
+use Rattle.source.proofs.Templates.{searched}
 use Rattle.source.proofs.template.first_bad_hole.Goals as goal
 
-pub returns-then-is_spoiled : goal.returns-then-is_spoiled
-returns-then-is_spoiled c =
-    let bs = c.args.template.now in
-    let i = c.loop-i.i in
-    sym (found bs i (omega arith) (sym (c.is_spoiled.ensures ∙ ap hole_spoiled (take_rest bs i)) ∙ c.if-is_spoiled.true)) ∙ c.loop-i.invariant
-
-pub loop-i-preserved : goal.loop-i-preserved
-loop-i-preserved c =
-    let bs = c.args.template.now in
-    let i = c.loop-i.i in
-    sym (passed bs i (omega arith) (sym (c.is_spoiled.ensures ∙ ap hole_spoiled (take_rest bs i)) ∙ c.if-is_spoiled.false)) ∙ c.loop-i.invariant
-
 pub returns : goal.returns
-returns c = sym (ended c.args.template.now c.loop-i.i (omega arith)) ∙ c.loop-i.invariant
+returns c =
+    let t = c.args.template.now in
+    searched t c.find.result (first_from_Range _ _ _ c.find.result (λ i. hole_spoiled (drop i t) ≡ true) (λ i. hole_spoiled (drop i t) ≡ false) c.find.ensures.ran
+    (λ x q h. search (rules, of_calls)) (λ x q h. search (rules, of_calls)))

@@ -1,56 +1,44 @@
-use Rattle.std.proofs.Common.{is_some, Some, Err, sym, refl, ap, ◌∙◌, ap₂, arith}
-use Rattle.std.specs.Map.{update}
-use Rattle.std.specs.Str.{bytes_eq}
-use Rattle.std.proofs.lemmas.Bool.{true≢false}
-use Rattle.std.proofs.lemmas.Result.{err_from_is_err_and}
-use Rattle.basics.specs.Checks.{answer}
-use Rattle.basics.proofs.Answered.{passed_if_ok, refused_if_err}
-use Rattle.aliases.specs.Aliases.{define_check, defined}
-use Rattle.aliases.specs.Spelling.{spelling_check}
-use Rattle.aliases.specs.Rows.{look_up}
-use Rattle.aliases.specs.Tables.{rows, aliases_of}
-use Rattle.aliases.proofs.Defined.{same_aliases, made_if, kept_if, misspelled, another, newly, count_another, count_newly}
+use Rattle.std.proofs.Common.{set, ◌∙◌, length-set, ap, is_some, arith}
+use Rattle.arrayvec.proofs.ArrayVecLemmas.{items-with_items}
+use Rattle.aliases.specs.Tables.{aliases_of}
+use Rattle.aliases.proofs.Changes.{pushed, replaced}
+use Rattle.aliases.proofs.Defined.{alias_is, another, newly}
 use Rattle.aliases.proofs.table.AliasTable.define.Goals as goal
 
-pub returns-in_err-check_spelling : goal.returns-in_err-check_spelling
-returns-in_err-check_spelling c =
-    let p = err_from_is_err_and c.from_residual.result c.from_residual.ensures.1 in
-    let a = aliases_of c.args.self.now in
-    let n = c.args.name.now in
-    let v = c.args.value.now in
-    let e = misspelled a n v _ (refused_if_err (spelling_check n v) tt _ c.in_err-check_spelling.ensures.is) in
-    record {
-      said = p.1 ∙ ap Err p.2 ∙ sym (ap (λ o. answer o tt) e);
-      after = kept_if (define_check a n v) a (defined a n v) _ e;
-      kept = λ _. refl;
-    }
+pub invariant_of-self : goal.invariant_of-self
+invariant_of-self c =
+    let f = rw (← c.self.view_is) at c.in-Some.ensures in
+    let held = c.self.inside.held in
+    let i = c.in-Some.index in
+    let a = c.in_ok-alias.alias in
+    let is = alias_is c.args.name.now c.args.value.now a c.in_ok-alias.ensures in
+    rw (c.deref_mut.ensures.value, items-with_items held (set held.items i a) (length-set held.items i a))
+    (replaced held.items c.args.name.now c.args.value.now i f.found.0 f.found.1 c.self.invariant f.value a is).0
 
-pub returns-in-Some : goal.returns-in-Some
-returns-in-Some c =
-    let t = c.args.self.now in
-    let n = c.args.name.now in
-    let v = c.args.value.now in
-    let a = aliases_of t in
-    let s = ap is_some c.in-Some.ensures.value in
-    let p = another a n v (passed_if_ok (spelling_check n v) tt _ c.in_ok-check_spelling.ensures.is) s in
-    let named = c.replace.ensures.named ∙ ap₂ (λ m w. update bytes_eq (look_up (rows t)) m (Some w)) c.new-alias.ensures.name c.new-alias.ensures.value in
-    record {
-      said = sym (ap (λ o. answer o tt) p);
-      after = made_if (define_check a n v) a (defined a n v) _ p (same_aliases named (c.replace.ensures.count ∙ count_another a n v s));
-      kept = λ e. absurd (true≢false e);
-    }
+pub invariant_of-self-in-None-2 : goal.invariant_of-self-in-None-2
+invariant_of-self-in-None-2 c =
+    let f = rw (← c.self.view_is) at c.in-None.ensures in
+    let a = c.in_ok-alias.alias in
+    let is = alias_is c.args.name.now c.args.value.now a c.in_ok-alias.ensures in
+    rw c.push.ensures.items (pushed _ c.args.name.now c.args.value.now f.found c.self.invariant f.value a is).0
 
-pub returns-else-self-eq-ALIAS_LIMIT : goal.returns-else-self-eq-ALIAS_LIMIT
-returns-else-self-eq-ALIAS_LIMIT c =
-    let t = c.args.self.now in
-    let n = c.args.name.now in
-    let v = c.args.value.now in
-    let a = aliases_of t in
-    let s = ap is_some c.in-None.ensures.value in
-    let p = newly a n v (passed_if_ok (spelling_check n v) tt _ c.in_ok-check_spelling.ensures.is) s (omega arith) in
-    let named = c.append.ensures.named ∙ ap₂ (λ m w. update bytes_eq (look_up (rows t)) m (Some w)) c.new-alias.ensures.name c.new-alias.ensures.value in
-    record {
-      said = sym (ap (λ o. answer o tt) p);
-      after = made_if (define_check a n v) a (defined a n v) _ p (same_aliases named (c.append.ensures.count ∙ count_newly a n v s));
-      kept = λ e. absurd (true≢false e);
-    }
+pub returns-in-Some-clause-after : goal.returns-in-Some-clause-after
+returns-in-Some-clause-after c =
+    let f = rw (← c.self.view_is) at c.in-Some.ensures in
+    let held = c.self.inside.held in
+    let i = c.in-Some.index in
+    let a = c.in_ok-alias.alias in
+    let is = alias_is c.args.name.now c.args.value.now a c.in_ok-alias.ensures in
+    rw (c.deref_mut.ensures.value, items-with_items held (set held.items i a) (length-set held.items i a), ← c.self.view_is)
+    ((replaced held.items c.args.name.now c.args.value.now i f.found.0 f.found.1 c.self.invariant f.value a is).1
+    ∙ another c.args.name.now c.args.value.now a c.in_ok-alias.ensures (aliases_of held.items) _ (ap is_some f.value))
+
+pub returns-in-None-2-clause-after : goal.returns-in-None-2-clause-after
+returns-in-None-2-clause-after c =
+    let f = rw (← c.self.view_is) at c.in-None.ensures in
+    let held = c.self.inside.held in
+    let a = c.in_ok-alias.alias in
+    let is = alias_is c.args.name.now c.args.value.now a c.in_ok-alias.ensures in
+    rw (c.push.ensures.items, ← c.self.view_is)
+    ((pushed _ c.args.name.now c.args.value.now f.found c.self.invariant f.value a is).1
+    ∙ newly c.args.name.now c.args.value.now a c.in_ok-alias.ensures (aliases_of held.items) _ (ap is_some f.value) (grind arith))

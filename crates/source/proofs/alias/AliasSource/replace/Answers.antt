@@ -1,49 +1,54 @@
-use Rattle.std.proofs.Common.{◌∷◌, refl, ap, ◌∙◌, arith}
+use Rattle.std.proofs.Common.{◌∷◌, subst, ◌≡◌, List, ℕ, sym, refl, ◌∙◌, ap, arith, cond, Some, None, Option}
 use Rattle.aliases.specs.Rows.{look_up, value_at}
-use Rattle.aliases.specs.Tables.{rows}
-use Rattle.source.specs.Fronts.{coming_of, open_names, value_for}
-use Rattle.source.proofs.Replaced.{no_value, too_many, in_front, if_unnamed, if_listed, if_not_listed}
+use Rattle.source.specs.Front.{Front}
+use Rattle.source.specs.Fronts.{value_for, replaced}
+use Rattle.source.specs.Opened.{seen, open_names, AreOpen}
+use Rattle.source.specs.declared.alias.Replacement.{Replacement}
+use Rattle.source.proofs.Opened.{replacing, length_pushed, open_names_push}
+use Rattle.source.proofs.Open.{one_more, length_open, AreOpen-push}
+use Rattle.source.specs.Replacing.{is_listed}
+use Rattle.std.specs.Prelude.{IsSome}
 use Rattle.source.proofs.alias.AliasSource.replace.Goals as goal
 
-pub returns-in_default : goal.returns-in_default
-returns-in_default g c =
-    let p = c.args.self.now in
+pub returns-clause-after : goal.returns-clause-after
+returns-clause-after g c =
+    let p = c.self.inside in
+    let r : Replacement = record { name = c.name_at.result; rest = c.value_at.result; place = c.args.place } in
+    let ss = g.S.Source.coming p.below in
+    let end = g.S.Source.end p.below in
     let word = c.args.word.now in
-    let row = rows p.table.now in
-    let o = if_unnamed (look_up row) (open_names p) word c.in_default.ensures.value in
-    let w = no_value c.args.place word (coming_of g.S.Source.coming p) (open_names p) (value_for p word) p.left o in
-    record { said = w.said; coming = w.coming; end = refl; names = w.names; left = w.left; table = refl }
+    let named = c.name_at.ensures.is ∙ c.in-Some.ensures.found.1 in
+    let value : value_for c.args.self.now word ≡ Some (value_at p.table.now c.in-Some.index) =
+    ap (λ b. cond b None (look_up c.args.self.now.table word)) (sym c.if-is_open.ensures)
+    ∙ ap (λ (x : Front). look_up x.table word) (sym c.self.view_is) ∙ c.in-Some.ensures.value in
+    rw c.push.ensures.items
+    (replacing p.opened.items ss end p.table.now r _ word _ p.left named c.value_at.ensures.is (omega arith) refl
+    ∙ ap (λ (o : Option (List ℕ)). replaced o (seen p.opened.items ss end p.left p.table.now) word c.args.place) (sym value)
+    ∙ ap (λ (x : Front). replaced (value_for c.args.self.now word) x word c.args.place) c.self.view_is)
 
-pub returns-then-is_open : goal.returns-then-is_open
-returns-then-is_open g c =
-    let p = c.args.self.now in
-    let word = c.args.word.now in
-    let o = if_listed (look_up (rows p.table.now)) (open_names p) word c.if-is_open.ensures in
-    let w = no_value c.args.place word (coming_of g.S.Source.coming p) (open_names p) (value_for p word) p.left o in
-    record { said = w.said; coming = w.coming; end = refl; names = w.names; left = w.left; table = refl }
+pub returns-clause-grows : goal.returns-clause-grows
+returns-clause-grows g c =
+    let p = c.self.inside in
+    rw (c.push.ensures.items, ← c.self.view_is) (length_pushed p.opened.items _ (g.S.Source.coming p.below) c.value_at.ensures.short)
 
-pub returns-then-self-eq0 : goal.returns-then-self-eq0
-returns-then-self-eq0 g c =
-    let p = c.args.self.now in
+pub push-requires : goal.push-requires
+push-requires g c =
+    let p = c.self.inside in
     let word = c.args.word.now in
-    let t = p.table.now in
-    let o = if_not_listed (look_up (rows t)) (open_names p) word c.if-is_open.ensures ∙ c.in-Some.ensures.value in
-    let w = too_many c.args.place word (coming_of g.S.Source.coming p) (open_names p) (value_for p word) p.left _ o c.if-self-eq0.true in
-    record { said = w.said; coming = w.coming; end = refl; names = w.names; left = w.left; table = refl }
+    let free = ap (λ (x : Front). is_listed word x.names) c.self.view_is ∙ sym c.if-is_open.ensures in
+    let some = subst (λ (o : Option (List ℕ)). IsSome o) (sym c.in-Some.ensures.value) refl in
+    let more = (one_more p.table.now (open_names p.opened.items) word c.self.invariant.0 free some c.find.ensures.room).few in
+    omega (arith, length_open p.opened.items)
 
-pub returns : goal.returns
-returns g c =
-    let p = c.args.self.now in
+pub invariant_of-self : goal.invariant_of-self
+invariant_of-self g c =
+    let p = c.self.inside in
     let word = c.args.word.now in
-    let t = p.table.now in
-    let e = c.push.ensures in
-    let o = if_not_listed (look_up (rows t)) (open_names p) word c.if-is_open.ensures ∙ c.in-Some.ensures.value in
-    let w = in_front c.args.place word (coming_of g.S.Source.coming p) (open_names p) (value_for p word) p.left (value_at (rows t) c.in-Some.index) o (omega arith) in
-    record {
-      said = w.said;
-      coming = e.coming ∙ w.coming;
-      end = e.end;
-      names = e.names ∙ ap (λ n. n ∷ open_names p) c.in-Some.ensures.found.1 ∙ w.names;
-      left = e.left ∙ w.left;
-      table = e.table;
-    }
+    let free = ap (λ (x : Front). is_listed word x.names) c.self.view_is ∙ sym c.if-is_open.ensures in
+    let some = subst (λ (o : Option (List ℕ)). IsSome o) (sym c.in-Some.ensures.value) refl in
+    let more = one_more p.table.now (open_names p.opened.items) word c.self.invariant.0 free some c.find.ensures.room in
+    let bounded = c.self.invariant.1 in
+    rw c.push.ensures.items (
+      AreOpen-push p.table.now p.opened.items _ (subst (λ (n : List ℕ). AreOpen p.table.now (n ∷ open_names p.opened.items)) (sym (c.name_at.ensures.is ∙ c.in-Some.ensures.found.1)) more),
+      rw open_names_push (omega arith),
+    )

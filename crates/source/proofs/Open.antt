@@ -1,0 +1,51 @@
+-- Aliases that are open, each but once. Assumes nothing.
+use Rattle.std.proofs.Common.{◌≡◌, ℕ, ◌≤◌, true, false, List, [], ◌∷◌, ◌++◌, length, ◌||◌, refl, sym, subst, arith}
+use Rattle.std.specs.Prelude.{IsSome}
+use Rattle.std.specs.List.{IsDistinct}
+use Rattle.std.specs.Str.{bytes_eq}
+use Rattle.std.proofs.lemmas.Cmp.{nat_list_eq_equiv}
+use Rattle.std.proofs.lemmas.List.{length-map, length-reverse}
+use Rattle.std.proofs.lemmas.List.Sorted.{IsPermutation-to_front}
+use Rattle.std.proofs.lemmas.Map.Keys.{IsDistinct-push, IsDistinct-IsPermutation, IsDistinct-tail}
+use Rattle.std.proofs.lemmas.Map.Steps.{length-le_from_keys}
+use Rattle.std.proofs.lemmas.Slice.Eq.{bytes_eq-Decides}
+use Rattle.aliases.specs.declared.table.AliasTable.{AliasTable}
+use Rattle.aliases.specs.Tables.{aliases_of}
+use Rattle.source.specs.declared.alias.Replacement.{Replacement}
+use Rattle.source.specs.Replacing.{is_listed}
+use Rattle.source.specs.Opened.{AreOpen, open_names}
+use Rattle.source.proofs.Opened.{open_names_push}
+
+pub none_open : (table : AliasTable) → AreOpen table []
+unfolding IsDistinct
+none_open table = record { apart = tt; few = omega arith; known = λ n t. let z : ◌≡◌ {A = ℕ} 0 1 = cc in absurd (omega arith) }
+
+module _ (table : AliasTable) (names : List (List ℕ)) (word : List ℕ) where
+  pub one_more : AreOpen table names → is_listed word names ≡ false → IsSome ((aliases_of table).named word) → length table ≤ 8 → AreOpen table (word ∷ names)
+  one_more h free found room =
+      let apart = IsDistinct-IsPermutation bytes_eq nat_list_eq_equiv.symm (names ++ word ∷ []) (word ∷ names) (IsPermutation-to_front names word) (IsDistinct-push nat_list_eq_equiv names word h.apart free) in
+      let known : (n : List ℕ) → is_listed n (word ∷ names) ≡ true → IsSome ((aliases_of table).named n) =
+      λ n t. elim (bytes_eq n word) as (λ b. bytes_eq n word ≡ b → (b || is_listed n names) ≡ true → IsSome ((aliases_of table).named n)) [
+        | true ↦ λ e t. subst (λ (m : List ℕ). IsSome ((aliases_of table).named m)) (sym ((bytes_eq-Decides n word).0 e)) found
+        | false ↦ λ e t. h.known n t
+      ] refl t in
+      let most : length (word ∷ names) ≤ length table = length-le_from_keys nat_list_eq_equiv (word ∷ names) table apart known in
+      record { apart = apart; few = omega arith; known = known }
+
+  pub one_less : AreOpen table (word ∷ names) → AreOpen table names
+  one_less h = record {
+    apart = IsDistinct-tail bytes_eq word names h.apart;
+    few = let f = h.few in omega arith;
+    known = λ n t. h.known n (elim (bytes_eq n word) as (λ b. (b || is_listed n names) ≡ true) [ true ↦ refl | false ↦ t ]);
+  }
+
+pub length_open : (rs : List Replacement) → length (open_names rs) ≡ length rs
+length_open rs = simp (length-reverse, length-map)
+
+-- a replacement behind the others
+module _ (table : AliasTable) (rs : List Replacement) (r : Replacement) where
+  pub AreOpen-push : AreOpen table (r.name.now ∷ open_names rs) → AreOpen table (open_names (rs ++ r ∷ []))
+  AreOpen-push h = rw open_names_push h
+
+  pub AreOpen-pop : AreOpen table (open_names (rs ++ r ∷ [])) → AreOpen table (r.name.now ∷ open_names rs)
+  AreOpen-pop h = subst (AreOpen table) (open_names_push rs r) h
