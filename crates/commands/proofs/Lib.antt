@@ -1,2 +1,1 @@
 pub mod ByLines
-pub mod Orders

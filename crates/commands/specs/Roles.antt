@@ -1,5 +1,5 @@
 -- Roles of words, the use of a word by its stage, and the reserved words. Assumes nothing.
-use Rattle.std.specs.Prelude.{ℕ, Bool, true, false, cond, ◌||◌, List, [], ◌∷◌, Some, None, codes, Option}
+use Rattle.std.specs.Prelude.{ℕ, Bool, true, false, cond, ◌||◌, List, [], ◌∷◌, Some, None, codes, Option, ◌==◌}
 use Rattle.std.specs.Str.{bytes_eq}
 use Rattle.commands.specs.declared.role.Role.{Role}
 use Rattle.commands.specs.declared.role.Role.TheVariants.{Name, Arg, Assign, Target, Delim, Number}
@@ -14,6 +14,11 @@ role_number Assign = 3
 role_number Target = 4
 role_number Delim = 5
 role_number Number = 6
+
+-- the role of a number, if it is a role's
+abbrev pub role_of : ℕ → Option Role
+role_of n =
+    cond (n == 1) (Some Name) (cond (n == 2) (Some Arg) (cond (n == 3) (Some Assign) (cond (n == 4) (Some Target) (cond (n == 5) (Some Delim) (cond (n == 6) (Some Number) None)))))
 
 abbrev pub is_name : Role → Bool
 is_name Name = true

@@ -8,6 +8,7 @@ pub struct Outer {
     // the word began with a bare name and `=`
     pub assign: bool,
     // a redirection awaits the word
+    // Stays: a yes or no, since a substitution opens where a target or nothing is awaited, and never in a delimiter.
     pub target: bool,
     // how many here-documents waited further out when the one around it opened
     pub waiting: usize,

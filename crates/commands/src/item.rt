@@ -20,6 +20,7 @@ pub enum Kind {
 }
 
 impl Kind {
+    // Stays: a match, since what a kind holds leaves it no number by `as`, and it has a second number besides.
     pub fn number(self) -> u8
         ensures { result ≡ kind_number self }
     {
@@ -38,8 +39,8 @@ impl Kind {
         ensures { result ≡ kind_code self }
     {
         match self {
-            Kind::Word(r) => r.number(),
-            Kind::Operator(o) => o.code(),
+            Kind::Word(r) => u8::from(r),
+            Kind::Operator(o) => u8::from(o),
             _ => 0,
         }
     }

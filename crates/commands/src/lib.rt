@@ -8,7 +8,6 @@ pub mod item;
 pub mod laws;
 pub mod line;
 pub mod queue;
-pub mod queueing;
 pub mod reserved;
 pub mod role;
 pub mod sort;

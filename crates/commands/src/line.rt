@@ -12,6 +12,7 @@ pub enum Line {
 }
 
 // What a byte of a body gives.
+// Stays: three cases that one match takes side by side; as an Option two of them would stand in Some.
 #[derive(Clone, Copy, Debug, PartialEq, Eq)]
 pub enum Gives {
     Nothing,

@@ -1,5 +1,6 @@
 -- A placed reading without its places is the reading of the signs. Assumes nothing.
 use Rattle.std.proofs.Common.{◌≡◌, ℕ, zero, suc, List, [], ◌∷◌, ◌++◌, Some, None, Option, sym, refl, ap, ◌∙◌, append_assoc}
+use Rattle.std.proofs.lemmas.List.{append-nil}
 use Rattle.source.specs.declared.symbol.Sign.{Sign}
 use Rattle.source.specs.declared.symbol.Sign.TheVariants.{Byte, Hole, AliasEnd}
 use Rattle.source.specs.declared.symbol.Symbol.{Symbol}
@@ -17,10 +18,6 @@ acts_join (x ∷ a) b = ap (λ l. act x ∷ l) (acts_join a b)
 signs_ahead : (v : List ℕ) (k : ℕ) (ss : List Symbol) → signs (bytes_at v k ss) ≡ ahead v (signs ss)
 signs_ahead [] k ss = refl
 signs_ahead (b ∷ v) k ss = ap (λ l. Byte b ∷ l) (signs_ahead v k ss)
-
-add_nil : {A : Type 0} (l : List A) → l ++ [] ≡ l
-add_nil [] = refl
-add_nil (x ∷ l) = ap (λ m. x ∷ m) (add_nil l)
 
 module _ (C A B D F G E P : Type 0) (T : Placing A B F E P) (al : Aliases) (R : Reader C A F) (says : A → List D) (blames : F → G) (f : B → D) (g : E → G)
     (gives-says : (a : A) (p : ℕ) (r : P) → each f (T.gives a p r) ≡ says a)
@@ -40,7 +37,7 @@ module _ (C A B D F G E P : Type 0) (T : Placing A B F E P) (al : Aliases) (R : 
   turn_apart (goes out c) p r k k' h = performs out p r (λ q. k c q) (k' c) (λ q. h c q)
   turn_apart (fails out x) p r k k' h =
       performs out p r (λ q. faulty T x p q) (only [] (refused (blames x))) (λ q. ap (λ y. only [] (refused y)) (refuses x p q))
-      ∙ ap (λ l. record { events = l; ending = refused (blames x) }) (add_nil (acts (told says out)))
+      ∙ ap (λ l. record { events = l; ending = refused (blames x) }) (append-nil (acts (told says out)))
 
   or_apart : (x : Option Replaced) (put : Replaced → Reading B E) (put' : Replaced → Reading D G) (r : Reading B E) (r' : Reading D G) → ((y : Replaced) → strip f g (put y) ≡ put' y) → strip f g r ≡ r' → strip f g (or_replaced x put r) ≡ or_replaced x put' r'
   or_apart None put put' r r' e h = h

@@ -1,5 +1,6 @@
 -- The laws of rendered scripts, over bytes and listed items. Assumes nothing.
 use Rattle.std.proofs.Common.{◌≡◌, ℕ, ◌+◌, Bool, true, false, cond, List, [], ◌∷◌, ◌++◌, length, sym, refl, ap, ◌∙◌, subst, append_assoc}
+use Rattle.std.proofs.lemmas.List.{append-nil}
 use mathlib.Core.Path.{fun_ext}
 use Rattle.basics.specs.declared.refusal.Reason.{Reason}
 use Rattle.basics.specs.declared.refusal.Refusal.{Refusal}
@@ -29,12 +30,8 @@ fill_more text [] ms = refl
 fill_more text (known l ∷ ls) ms = ap (λ x. known l ∷ x) (fill_more text ls ms)
 fill_more text (filled_by d ∷ ls) ms = ap (λ x. quoted_letters (text d) ++ x) (fill_more text ls ms) ∙ sym (append_assoc (quoted_letters (text d)) (fill_letters text ls) (fill_letters text ms))
 
-add_nil : {A : Type 0} (l : List A) → l ++ [] ≡ l
-add_nil [] = refl
-add_nil (x ∷ l) = ap (λ m. x ∷ m) (add_nil l)
-
 items_spelled : (t : List ℕ) (ls : List ItemLetter) (xs : List (Event Written)) → items ls (spelled quoted t ++ xs) ≡ items (ls ++ quoted_letters t) xs
-items_spelled [] ls xs = ap (λ l. items l xs) (sym (add_nil ls))
+items_spelled [] ls xs = ap (λ l. items l xs) (sym (append-nil ls))
 items_spelled (b ∷ t) ls xs = items_spelled t (ls ++ (known (marked Quoted b) ∷ [])) xs ∙ ap (λ l. items l xs) (append_assoc ls (known (marked Quoted b) ∷ []) (quoted_letters t))
 
 items_filled : (text : ℕ → List ℕ) (xs : List (Event Written)) (ls : List ItemLetter) → items (fill_letters text ls) (fill_events quoted text xs) ≡ fill_items text (items ls xs)
@@ -44,7 +41,7 @@ items_filled text (act (item k n) ∷ xs) ls = ap (λ is. record { kind = k; dep
 items_filled text (act forget ∷ xs) ls = items_filled text xs []
 items_filled text (hole d ∷ xs) ls =
     items_spelled (text d) (fill_letters text ls) (fill_events quoted text xs)
-    ∙ ap (λ m. items (fill_letters text ls ++ m) (fill_events quoted text xs)) (sym (add_nil (quoted_letters (text d))))
+    ∙ ap (λ m. items (fill_letters text ls ++ m) (fill_events quoted text xs)) (sym (append-nil (quoted_letters (text d))))
     ∙ ap (λ m. items m (fill_events quoted text xs)) (sym (fill_more text ls (filled_by d ∷ [])))
     ∙ items_filled text xs (ls ++ (filled_by d ∷ []))
 

@@ -6,7 +6,7 @@ use Rattle.source.specs.declared.symbol.Sign.{Sign}
 use Rattle.source.specs.declared.symbol.Sign.TheVariants.{Byte, Hole, AliasEnd}
 use Rattle.quoting.specs.declared.form.State.{State}
 use Rattle.quoting.specs.declared.form.State.TheVariants.{Bare, Escaped, SingleQuoted}
-use Rattle.quoting.specs.declared.form.Step.TheVariants.{Passes, Delivers, Unlawful}
+use Rattle.quoting.specs.declared.form.Step.TheVariants.{Passes, Delivers}
 use Rattle.quoting.specs.Forms.{delivered, stepped, with_byte, LawfulForm}
 use Rattle.source.specs.Replacing.{outer}
 use Rattle.reading.specs.Readings.{Turn, goes, fails, Reader, Aliases, Event, act, hole, ended, refused, Reading, acts, first, only, ahead, value_ahead, Replaced, replaced, at_turn, at_hole, or_replaced, replacing, read_to, read}
@@ -53,16 +53,16 @@ module _ (C A F : Type 0) (al : Aliases) (R : Reader C A F) (q : ℕ → A) (L :
       turned b bs c d [] (ap (λ x. R.name_before x c) (eqb-true b m e) ∙ n) (ap (λ x. R.byte x c) (eqb-true b m e) ∙ f) ∙ r
 
   module _ (home : R.hole w ≡ goes [] w) (b : ℕ) (bs : List ℕ) (ih : (s : State) (t : List ℕ) → delivered s bs ≡ Some t → Reads bs (within s) t) (t : List ℕ) where
-    in_bare : (y z : Bool) → eqb b single_quote ≡ y → eqb b backslash ≡ z → stepped (cond y (Passes SingleQuoted) (cond z (Passes Escaped) Unlawful)) b (λ s. delivered s bs) ≡ Some t → Reads (b ∷ bs) w t
+    in_bare : (y z : Bool) → eqb b single_quote ≡ y → eqb b backslash ≡ z → stepped (cond y (Some (Passes SingleQuoted)) (cond z (Some (Passes Escaped)) None)) b (λ s. delivered s bs) ≡ Some t → Reads (b ∷ bs) w t
     in_bare true z e f h = passing b single_quote bs w (L.in_single w) t e (L.no_name_at_quote w) (L.opens w w [] home) (ih SingleQuoted t h)
     in_bare false true e f h = passing b backslash bs w (L.in_escape w) t f (L.no_name_at_backslash w) (L.escapes w w [] home) (ih Escaped t h)
     in_bare false false e f h = absurd (never t h)
 
-    in_escaped : (y : Bool) → eqb b newline ≡ y → stepped (cond y Unlawful (Delivers Bare)) b (λ s. delivered s bs) ≡ Some t → Reads (b ∷ bs) (L.in_escape w) t
+    in_escaped : (y : Bool) → eqb b newline ≡ y → stepped (cond y None (Some (Delivers Bare))) b (λ s. delivered s bs) ≡ Some t → Reads (b ∷ bs) (L.in_escape w) t
     in_escaped true e h = absurd (never t h)
     in_escaped false e h = delivering b bs (L.in_escape w) w t (delivered Bare bs) (L.no_name_in_escape w b) (L.escaped w w [] home b e) (ih Bare) h
 
-    in_single : (y : Bool) → eqb b single_quote ≡ y → stepped (cond y (Passes Bare) (Delivers SingleQuoted)) b (λ s. delivered s bs) ≡ Some t → Reads (b ∷ bs) (L.in_single w) t
+    in_single : (y : Bool) → eqb b single_quote ≡ y → stepped (cond y (Some (Passes Bare)) (Some (Delivers SingleQuoted))) b (λ s. delivered s bs) ≡ Some t → Reads (b ∷ bs) (L.in_single w) t
     in_single true e h = passing b single_quote bs (L.in_single w) w t e (L.no_name_in_single w single_quote) (L.closes w w [] home) (ih Bare t h)
     in_single false e h = delivering b bs (L.in_single w) (L.in_single w) t (delivered SingleQuoted bs) (L.no_name_in_single w b) (L.holds w w [] home b e) (ih SingleQuoted) h
 
@@ -85,7 +85,7 @@ module _ (C A F : Type 0) (al : Aliases) (R : Reader C A F) (q : ℕ → A) (L :
     home : R.hole w ≡ goes [] w
     home = L.stays c w out e
 
-    after_escape : (b : ℕ) (bs : List ℕ) (y : Bool) → eqb b newline ≡ y → stepped (cond y Unlawful (Delivers Bare)) b (λ s. delivered s bs) ≡ Some t → Fits (b ∷ bs) (L.in_escape c)
+    after_escape : (b : ℕ) (bs : List ℕ) (y : Bool) → eqb b newline ≡ y → stepped (cond y None (Some (Delivers Bare))) b (λ s. delivered s bs) ≡ Some t → Fits (b ∷ bs) (L.in_escape c)
     after_escape b bs true x h = absurd (never t h)
     after_escape b bs false x h =
         let p = parts b (delivered Bare bs) t h in
@@ -98,7 +98,7 @@ module _ (C A F : Type 0) (al : Aliases) (R : Reader C A F) (q : ℕ → A) (L :
     escaping [] h = absurd (never t h)
     escaping (b ∷ bs) h = after_escape b bs (eqb b newline) refl h
 
-    first_byte : (b : ℕ) (bs : List ℕ) (y z : Bool) → eqb b single_quote ≡ y → eqb b backslash ≡ z → stepped (cond y (Passes SingleQuoted) (cond z (Passes Escaped) Unlawful)) b (λ s. delivered s bs) ≡ Some t → Fits (b ∷ bs) c
+    first_byte : (b : ℕ) (bs : List ℕ) (y z : Bool) → eqb b single_quote ≡ y → eqb b backslash ≡ z → stepped (cond y (Some (Passes SingleQuoted)) (cond z (Some (Passes Escaped)) None)) b (λ s. delivered s bs) ≡ Some t → Fits (b ∷ bs) c
     first_byte b bs true z x f h =
         turned b bs c (L.in_single w) out (ap (λ n. R.name_before n c) (eqb-true b single_quote x) ∙ L.no_name_at_quote c) (ap (λ n. R.byte n c) (eqb-true b single_quote x) ∙ L.opens c w out e)
         ∙ ap (first (acts out)) (form_reads home bs SingleQuoted t h)

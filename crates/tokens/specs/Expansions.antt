@@ -1,13 +1,14 @@
 -- What is begun, and whether a byte goes on with it. Assumes nothing.
-use Rattle.std.specs.Prelude.{ℕ, Bool, true, false, ◌||◌, List, [], ◌∷◌, is_some, codes, ◌==◌}
+use Rattle.std.specs.Prelude.{ℕ, Bool, true, false, ◌||◌, List, is_some, codes, ◌==◌}
+use Rattle.std.specs.List.{list_any}
 use Rattle.tokens.specs.declared.begun.Begun.{Begun}
 use Rattle.tokens.specs.declared.begun.Begun.TheVariants as begun
 use Rattle.tokens.specs.Bytes.{class_of, is_digit, is_name_start, is_name_byte, open_paren, open_brace}
 use Rattle.tokens.specs.Operators.{lengthened}
 
+-- the byte is in the text
 abbrev pub among : ℕ → List ℕ → Bool
-among b [] = false
-among b (x ∷ xs) = b == x || among b xs
+among b text = list_any (λ x. x == b) text
 
 -- the parameters of one byte: `$1`, `$@` and their like
 abbrev pub is_special : ℕ → Bool

@@ -1,10 +1,10 @@
 -- The table of operators: rows by code, columns by byte class. Assumes nothing.
-use Rattle.std.specs.Prelude.{ℕ, ◌-◌, cond, List, [], ◌∷◌, Some, None, Option, ◌==◌, slice_index_or}
+use Rattle.std.specs.Prelude.{ℕ, cond, List, [], ◌∷◌, Some, None, Option, ◌==◌}
 use Rattle.tokens.specs.declared.class.Class.{Class}
 use Rattle.tokens.specs.declared.class.Class.TheVariants as class
 use Rattle.tokens.specs.declared.operator.Operator.{Operator}
 use Rattle.tokens.specs.declared.operator.Operator.TheVariants as op
-use Rattle.tokens.specs.Operators.{code_of, operators, lengthened}
+use Rattle.tokens.specs.Operators.{code_of}
 
 abbrev pub column_of : Class → ℕ
 column_of class.Newline = 0
@@ -53,7 +53,3 @@ operator_of n =
     (cond (n == 17) (Some op.HereDash)
     (cond (n == 18) (Some op.Clobber)
     None))))))))))))))))))
-
--- the entry that belongs in row i and column j
-unfoldable pub longer : ℕ → ℕ → ℕ
-longer i j = code_or0 (lengthened (slice_index_or classes j class.Other) (slice_index_or operators (i - 1) op.Newline))

@@ -7,6 +7,7 @@ use crate::class::class_of;
 use crate::operator::Operator;
 use crate::table::lengthen;
 
+// Stays: nothing is one of seven cases that are taken side by side; an Option would put Some round the six others in each match.
 #[derive(Clone, Copy, Debug, PartialEq, Eq)]
 pub enum Begun {
     Nothing,
@@ -41,18 +42,12 @@ impl Begun {
     pub fn is_dollar(self) -> bool
         ensures { result ≡ is_dollar self }
     {
-        match self {
-            Begun::Dollar => true,
-            _ => false,
-        }
+        matches!(self, Begun::Dollar)
     }
 
     pub fn is_nothing(self) -> bool
         ensures { result ≡ is_nothing self }
     {
-        match self {
-            Begun::Nothing => true,
-            _ => false,
-        }
+        matches!(self, Begun::Nothing)
     }
 }

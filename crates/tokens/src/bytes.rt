@@ -6,14 +6,14 @@ ghost use Rattle.tokens.specs.Expansions.{among, is_special, is_quotable};
 pub fn is_digit(b: u8) -> bool
     ensures { result ≡ is_digit b }
 {
-    b >= b'0' && b <= b'9'
+    b.is_ascii_digit()
 }
 
 // An ASCII letter or `_`.
 pub fn is_name_start(b: u8) -> bool
     ensures { result ≡ is_name_start b }
 {
-    (b >= b'A' && b <= b'Z') || (b >= b'a' && b <= b'z') || b == b'_'
+    b.is_ascii_alphabetic() || b == b'_'
 }
 
 pub fn is_name_byte(b: u8) -> bool
@@ -26,32 +26,22 @@ pub fn is_name_byte(b: u8) -> bool
 pub fn is_special(b: u8) -> bool
     ensures { result ≡ is_special b }
 {
-    match b {
-        b'0'..=b'9' | b'@' | b'*' | b'#' | b'?' | b'-' | b'$' | b'!' => true,
-        _ => false,
-    }
+    matches!(
+        b,
+        b'0'..=b'9' | b'@' | b'*' | b'#' | b'?' | b'-' | b'$' | b'!'
+    )
 }
 
 // A byte that a backslash quotes in double quotes.
 pub fn is_quotable(b: u8) -> bool
     ensures { result ≡ is_quotable b }
 {
-    match b {
-        b'$' | b'`' | b'"' | b'\\' => true,
-        _ => false,
-    }
+    matches!(b, b'$' | b'`' | b'"' | b'\\')
 }
 
 // The byte is in the text.
 pub fn contains(text: &[u8], b: u8) -> bool
     ensures { result ≡ among b text.now }
 {
-    let mut i = 0;
-    while i < text.len() {
-        if b == text[i] {
-            return true;
-        }
-        i += 1;
-    }
-    false
+    text.contains(&b)
 }

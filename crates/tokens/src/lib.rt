@@ -4,7 +4,6 @@
 pub mod begun;
 pub mod bytes;
 pub mod class;
-pub mod keeping;
 pub mod kept;
 pub mod letter;
 pub mod opening;

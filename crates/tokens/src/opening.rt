@@ -34,42 +34,23 @@ impl Opening {
         ensures { result ≡ further self b }
     {
         match self {
-            Opening::Digits => {
-                if is_digit(b) {
-                    Opening::Digits
-                } else {
-                    Opening::Other
-                }
-            }
-            Opening::Name => {
-                if is_name_byte(b) {
-                    Opening::Name
-                } else if b == b'=' {
-                    Opening::Assign
-                } else {
-                    Opening::Other
-                }
-            }
+            Opening::Digits if is_digit(b) => Opening::Digits,
+            Opening::Name if is_name_byte(b) => Opening::Name,
+            Opening::Name if b == b'=' => Opening::Assign,
             Opening::Assign => Opening::Assign,
-            Opening::Other => Opening::Other,
+            _ => Opening::Other,
         }
     }
 
     pub fn is_assign(self) -> bool
         ensures { result ≡ is_assign self }
     {
-        match self {
-            Opening::Assign => true,
-            _ => false,
-        }
+        matches!(self, Opening::Assign)
     }
 
     pub fn is_number(self) -> bool
         ensures { result ≡ is_number self }
     {
-        match self {
-            Opening::Digits => true,
-            _ => false,
-        }
+        matches!(self, Opening::Digits)
     }
 }

@@ -1,9 +1,6 @@
-use Rattle.std.proofs.Common.{[], ◌∙◌, ap₂}
-use Rattle.tokens.specs.Table.{longer}
-use Rattle.tokens.proofs.Rule.{entry, rows, right}
+use Rattle.std.proofs.Common.{arith}
+use Rattle.tokens.proofs.Rule.{entry}
 use Rattle.tokens.proofs.table.next_code.Goals as goal
 
 pub returns : goal.returns
-returns c =
-    entry rows (record { next = [] }) c.row.result c.column.result right c.row.ensures.below c.column.ensures.below
-    ∙ ap₂ longer c.row.ensures.is c.column.ensures.is
+returns c = rw (c.row.ensures.is, c.column.ensures.is) (entry c.args.o c.args.c _ (omega arith))
