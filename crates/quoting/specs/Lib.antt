@@ -7,3 +7,5 @@ pub mod Backslashed
 pub mod Joins
 pub mod Steps
 pub mod Singly
+pub mod Pieces
+pub mod Rooms

@@ -1,5 +1,5 @@
 -- The form in single quotes: its pieces, its length, and that it is lawful. Assumes nothing.
-use Rattle.std.specs.Prelude.{◌≡◌, ℕ, ◌+◌, ◌*◌, Bool, true, false, cond, ◌≢◌, List, [], ◌∷◌, ◌++◌, length, Some, codes, ◌==◌, nat_eq, refl}
+use Rattle.std.specs.Prelude.{◌≡◌, ℕ, ◌+◌, ◌*◌, ◌≤◌, Bool, true, false, cond, ◌≢◌, List, [], ◌∷◌, ◌++◌, length, Some, codes, ◌==◌, nat_eq, refl}
 use Rattle.std.proofs.Common.{ap, ◌∙◌, inl, inr, arith, length-append}
 use Rattle.std.proofs.lemmas.Bool.{cases_eq, eq-eqb, ne_eqb}
 use Rattle.std.proofs.lemmas.List.Sums.{count_by-le-length}
@@ -9,7 +9,8 @@ use Rattle.quoting.specs.declared.form.State.TheVariants.{SingleQuoted}
 use Rattle.quoting.specs.Forms.{delivered, with_byte, Lawful}
 use Rattle.quoting.specs.Singles.{inside, single}
 use Rattle.quoting.specs.Joins.{joined_length}
-use Rattle.quoting.specs.Steps.{delivers, single_other}
+use Rattle.quoting.specs.Pieces.{pieced}
+use Rattle.quoting.specs.Steps.{by_step, single_other}
 
 pub inside_quote : (b : ℕ) → b ≡ single_quote → inside b ≡ codes "'\\''"
 inside_quote b e = rw (eq-eqb b single_quote e)
@@ -27,17 +28,23 @@ inside_length b = by_test (b == single_quote)
 pub single_length : (text : List ℕ) → length (single text) ≡ length text + 3 * occurrences single_quote text + 2
 single_length text = omega (arith, length-append (flat_map inside text) (codes "'"), joined_length inside single_quote 1 3 inside_length text)
 
+pub single_pieced : (text : List ℕ) → single text ≡ pieced (λ t. codes "'") inside text
+single_pieced text = refl
+
+pub single_short : (text : List ℕ) → length (single text) ≤ 4 * length text + 2
+single_short text = omega (arith, single_length text, count_by-le-length (λ x. nat_eq x single_quote) text)
+
 -- in single quotes the pieces deliver the text, and the last ' leaves them
 pieces_deliver : (text : List ℕ) → delivered SingleQuoted (flat_map inside text ++ codes "'") ≡ Some text
 pieces_deliver [] = refl
 pieces_deliver (b ∷ text) = elim (cases_eq b single_quote) [
   | inl e ↦ rw (inside_quote b e, e) (ap (with_byte single_quote) (pieces_deliver text))
-  | inr n ↦ rw (inside_other b n) (delivers SingleQuoted b (single_other b n) (flat_map inside text ++ codes "'") ∙ ap (with_byte b) (pieces_deliver text))
+  | inr n ↦ rw (inside_other b n) (by_step SingleQuoted b (single_other b n) (flat_map inside text ++ codes "'") ∙ ap (with_byte b) (pieces_deliver text))
 ]
 
 pub single_lawful : Lawful single
 single_lawful text free = record {
   some = omega (arith, single_length text);
   reads = pieces_deliver text;
-  short = omega (arith, single_length text, count_by-le-length (λ x. nat_eq x single_quote) text);
+  short = single_short text;
 }

@@ -16,15 +16,15 @@ left (Ok text) part = written text part
 left (Err place) part = part
 
 -- the text's length in the text's place
-abbrev pub counted : Result (List ℕ) ℕ → Result ℕ ℕ
+abbrev pub counted : Result (List ℕ) ℕ → Result ℕ Unread
 counted (Ok text) = Ok (length text)
-counted (Err place) = Err place
+counted (Err place) = Err (Unlawful place)
 
 abbrev pub text_of : Result (List ℕ) ℕ → List ℕ
 text_of (Ok text) = text
 text_of (Err place) = []
 
 -- the length of the text of a form of len bytes, where n bytes came before what the rest delivers, or else a place
-abbrev pub concluded : ℕ → ℕ → Option (List ℕ) → ℕ → Result ℕ ℕ
-concluded len n None place = Err place
-concluded len n (Some text) place = cond (nat_le len (longest (n + length text))) (Ok (n + length text)) (Err (longest (n + length text)))
+abbrev pub concluded : ℕ → ℕ → Option (List ℕ) → ℕ → Result ℕ Unread
+concluded len n None place = Err (Unlawful place)
+concluded len n (Some text) place = cond (nat_le len (longest (n + length text))) (Ok (n + length text)) (Err (Unlawful (longest (n + length text))))

@@ -1,59 +1,49 @@
 // Backslash: a backslash before each byte.
-ghost use Rattle.std.specs.Prelude.{◌≡◌, length, nat_le};
-ghost use Rattle.quoting.specs.Backslashes.{backslashed};
-ghost use Rattle.quoting.specs.Backslashed.{backslashed_lawful};
+ghost use Rattle.quoting.specs.Backslashes.{backslashed, brink, escaped};
+ghost use Rattle.quoting.specs.Backslashed.{backslashed_lawful, backslashed_pieced, backslashed_short};
 
-use crate::quoter::{LawfulQuoter, Quoter};
-use basics::bytes::{count, tell};
+use crate::pieces::Pieces;
+use crate::quoter::LawfulQuoter;
+use basics::bytes::count;
 use basics::page::put;
 
 // Writes a backslash before each byte, but a newline as ' newline ', and the empty text as ''.
-#[derive(Clone, Copy, Debug)]
+#[derive(Clone, Copy, Debug, Default, PartialEq, Eq, Hash)]
 pub struct Backslash;
 
-// The form's length, which a `usize` may be too small for.
-fn form_length(text: &[u8]) -> u128
-    ensures { result ≡ length (backslashed text.now) }
-{
-    if text.len() == 0 {
-        return 2;
-    }
-    2 * text.len() as u128 + count(text, b'\n') as u128
-}
+impl Pieces for Backslash {
+    ghost form = { backslashed };
 
-// Whether the form fits into that much room. Ample room is told without a look at the text.
-fn has_room(text: &[u8], room: usize) -> bool
-    ensures { result ≡ nat_le (length (backslashed text.now)) room }
-{
-    let room = room as u128;
-    3 * text.len() as u128 + 2 <= room || form_length(text) <= room
-}
+    ghost edge = { brink };
 
-impl Quoter for Backslash {
-    ghost form = { λ _ text. backslashed text };
+    ghost piece = { escaped };
 
-    fn measure(&self, text: &[u8]) -> usize {
-        tell(form_length(text))
+    ghost WIDEST = { 3 };
+
+    const WIDEST: u8 = 3;
+
+    fn edge(text: &[u8]) -> &'static [u8] {
+        if text.is_empty() { b"'" } else { b"" }
     }
 
-    fn write(&self, text: &[u8], part: &mut [u8]) -> bool {
-        if !has_room(text, part.len()) {
-            return false;
+    fn put_piece(part: &mut [u8], at: usize, byte: u8) -> usize {
+        if byte == b'\n' {
+            put(part, at, b"'\n'")
+        } else {
+            put(part, at, &[b'\\', byte])
         }
-        if text.len() == 0 {
-            put(part, 0, b"''");
-            return true;
-        }
-        let mut at = 0;
-        for b in text {
-            if *b == b'\n' {
-                at = put(part, at, b"'\n'");
-            } else {
-                at = put(part, at, &[b'\\', *b]);
-            }
-        }
-        true
     }
+
+    fn form_length(text: &[u8]) -> u128 {
+        if text.is_empty() {
+            return 2;
+        }
+        2 * text.len() as u128 + count(text, b'\n') as u128
+    }
+
+    ghost is_pieced = { backslashed_pieced };
+
+    ghost short = { backslashed_short };
 }
 
 impl LawfulQuoter for Backslash {

@@ -3,13 +3,17 @@
 
 pub mod backslash;
 pub mod form;
+mod pieces;
 pub mod quoter;
 pub mod single;
+pub mod trip;
+pub mod unquote;
+
 // Worked examples.
 #[cfg(test)]
 mod tests {
     use crate::backslash::Backslash;
-    use crate::quoter::Quoter;
+    use crate::quoter::{NoRoom, Quoter};
     use crate::single::Single;
     use crate::trip::round_trip;
     use crate::unquote::{Unread, unquote};
@@ -18,12 +22,13 @@ mod tests {
     fn single_quotes(rt: HostRuntime) {
         let mut page = [b'.'; 12];
         assert_eq!(rt; Single.measure(b"it's"), 9);
-        assert!(rt; Single.write(b"it's", &mut page));
+        assert_eq!(rt; Single.write(b"it's", &mut page), Ok(9));
         assert!(rt; &page == b"'it'\\''s'...");
-        assert!(rt; Single.write(b"", &mut page));
+        assert_eq!(rt; Single.write(b"", &mut page), Ok(2));
         assert!(rt; &page == b"''t'\\''s'...", "the rest stays");
-        assert!(rt;
-            !Single.write(b"it's and more", &mut page),
+        assert_eq!(rt;
+            Single.write(b"it's and more", &mut page),
+            Err(NoRoom),
             "too long for the page"
         );
         assert!(rt; &page == b"''t'\\''s'...", "nothing is written then");
@@ -33,9 +38,9 @@ mod tests {
     fn backslashes(rt: HostRuntime) {
         let mut page = [b'.'; 8];
         assert_eq!(rt; Backslash.measure(b"a\n$"), 7);
-        assert!(rt; Backslash.write(b"a\n$", &mut page));
+        assert_eq!(rt; Backslash.write(b"a\n$", &mut page), Ok(7));
         assert!(rt; &page == b"\\a'\n'\\$.");
-        assert!(rt; Backslash.write(b"", &mut page));
+        assert_eq!(rt; Backslash.write(b"", &mut page), Ok(2));
         assert!(rt; &page == b"'''\n'\\$.", "the empty text");
     }
 
@@ -82,6 +87,3 @@ mod tests {
         assert!(rt; &part == b"2>fx)'\\\n\"\0\0\0");
     }
 }
-
-pub mod trip;
-pub mod unquote;

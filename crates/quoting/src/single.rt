@@ -1,54 +1,47 @@
 // Single: the text in single quotes.
-ghost use Rattle.std.specs.Prelude.{◌≡◌, length, nat_le};
-ghost use Rattle.quoting.specs.Singles.{single};
-ghost use Rattle.quoting.specs.Singly.{single_lawful};
+ghost use Rattle.std.specs.Prelude.{codes};
+ghost use Rattle.quoting.specs.Singles.{inside, single};
+ghost use Rattle.quoting.specs.Singly.{single_lawful, single_pieced, single_short};
 
-use crate::quoter::{LawfulQuoter, Quoter};
-use basics::bytes::{count, tell};
+use crate::pieces::Pieces;
+use crate::quoter::LawfulQuoter;
+use basics::bytes::count;
 use basics::page::put;
 
 // Writes ', the text with each ' as '\'', then '.
-#[derive(Clone, Copy, Debug)]
+#[derive(Clone, Copy, Debug, Default, PartialEq, Eq, Hash)]
 pub struct Single;
 
-// The form's length, which a `usize` may be too small for.
-fn form_length(text: &[u8]) -> u128
-    ensures { result ≡ length (single text.now) }
-{
-    text.len() as u128 + 3 * count(text, b'\'') as u128 + 2
-}
+impl Pieces for Single {
+    ghost form = { single };
 
-// Whether the form fits into that much room. Ample room is told without a look at the text.
-fn has_room(text: &[u8], room: usize) -> bool
-    ensures { result ≡ nat_le (length (single text.now)) room }
-{
-    let room = room as u128;
-    4 * text.len() as u128 + 2 <= room || form_length(text) <= room
-}
+    ghost edge = { λ _. codes "'" };
 
-impl Quoter for Single {
-    ghost form = { λ _ text. single text };
+    ghost piece = { inside };
 
-    fn measure(&self, text: &[u8]) -> usize {
-        tell(form_length(text))
+    ghost WIDEST = { 4 };
+
+    const WIDEST: u8 = 4;
+
+    fn edge(_text: &[u8]) -> &'static [u8] {
+        b"'"
     }
 
-    fn write(&self, text: &[u8], part: &mut [u8]) -> bool {
-        if !has_room(text, part.len()) {
-            return false;
+    fn put_piece(part: &mut [u8], at: usize, byte: u8) -> usize {
+        if byte == b'\'' {
+            put(part, at, b"'\\''")
+        } else {
+            put(part, at, &[byte])
         }
-        let mut at = put(part, 0, b"'");
-        for b in text {
-            if *b == b'\'' {
-                at = put(part, at, b"'\\''");
-            } else {
-                part[at] = *b;
-                at += 1;
-            }
-        }
-        put(part, at, b"'");
-        true
     }
+
+    fn form_length(text: &[u8]) -> u128 {
+        text.len() as u128 + 3 * count(text, b'\'') as u128 + 2
+    }
+
+    ghost is_pieced = { single_pieced };
+
+    ghost short = { single_short };
 }
 
 impl LawfulQuoter for Single {

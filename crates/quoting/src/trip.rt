@@ -21,11 +21,8 @@ pub fn round_trip<Q: Quoter>(
     ensures returns { Lawful (Q.Quoter.form quoter.now)
         → Returns (Q.Quoter.form quoter.now) text.now page.old part.old part.new result }
 {
-    if !quoter.write(text, page) {
-        return Err(Unread::NoRoom);
-    }
-    let n = quoter.measure(text);
-    unquote(&page[0..n], part)
+    let n = quoter.write(text, page)?;
+    unquote(&page[..n], part)
 }
 
 // Reading back takes exactly the lawful forms, each as its text.

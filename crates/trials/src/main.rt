@@ -1,14 +1,14 @@
 // Trials of quoting: texts are taken through their form and back, and forms are damaged by one byte.
 #![tactic(auto)]
 
-mod random;
 mod tally;
 
+use basics::slices::up_to;
 use quoting::backslash::Backslash;
 use quoting::quoter::LawfulQuoter;
 use quoting::single::Single;
-use random::Random;
-use tally::Tally;
+use random::{Numbers, Plain};
+use tally::{Tally, text_byte};
 
 // How many texts of a random length and random bytes are tried, and how many damages of each form.
 const RANDOM_TEXTS: u32 = 4000;
@@ -27,49 +27,32 @@ fn try_short<Q: LawfulQuoter>(tally: &mut Tally, quoter: &Q) {
 }
 
 // Random texts of up to 512 bytes.
-fn try_random<Q: LawfulQuoter>(tally: &mut Tally, quoter: &Q, random: &mut Random) {
+fn try_random<Q: LawfulQuoter>(tally: &mut Tally, quoter: &Q, random: &mut impl Numbers) {
     let mut store = [0u8; 512];
     for _ in 0..RANDOM_TEXTS {
         let length = random.below(513);
         for b in store.iter_mut() {
-            *b = random.text_byte();
+            *b = text_byte(random);
         }
-        if length <= 512 {
-            tally.try_text(quoter, &store[0..length]);
-            for _ in 0..DAMAGES {
-                tally.try_damage(quoter, &store[0..length], random);
-            }
+        let text = up_to(&store, length);
+        tally.try_text(quoter, text);
+        for _ in 0..DAMAGES {
+            tally.try_damage(quoter, text, random);
         }
     }
 }
 
-fn try_quoter<Q: LawfulQuoter>(rt: &HostRuntime, name: &str, quoter: &Q) -> anyhow::Result<()> {
-    let mut tally = Tally::new();
-    let mut random = Random::new(2463534242);
+fn try_quoter<Q: LawfulQuoter>(name: &'static str, quoter: &Q) -> Tally {
+    let mut tally = Tally::new(name);
+    let mut random = Plain::new(2463534242);
     tally.try_text(quoter, b"");
     try_short(&mut tally, quoter);
     try_random(&mut tally, quoter, &mut random);
-    let Tally {
-        texts,
-        differ,
-        damages,
-        unlawful,
-        other,
-        same,
-        wrong,
-    } = tally;
-    println!(rt; "{name}: {texts} texts there and back, {differ} differ")?;
-    println!(rt;
-        "{name}: {damages} damaged forms, {unlawful} unlawful, {other} of another text, {same} as before, {wrong} wrong"
-    )?;
-    Ok(())
-}
-
-fn run(rt: &HostRuntime) -> anyhow::Result<()> {
-    try_quoter(rt, "single", &Single)?;
-    try_quoter(rt, "backslash", &Backslash)
+    tally
 }
 
 fn main(rt: HostRuntime) -> anyhow::Result<()> {
-    run(&rt)
+    println!(rt; "{}", try_quoter("single", &Single))?;
+    println!(rt; "{}", try_quoter("backslash", &Backslash))?;
+    Ok(())
 }

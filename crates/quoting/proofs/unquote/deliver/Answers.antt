@@ -1,4 +1,4 @@
-use Rattle.std.proofs.Common.{◌≡◌, ℕ, ◌+◌, ◌<◌, ◌≤◌, List, [], ◌∷◌, ◌++◌, length, get_or, take, drop, set, Some, sym, ap, ◌∙◌, arith}
+use Rattle.std.proofs.Common.{◌≡◌, ℕ, ◌+◌, ◌<◌, ◌≤◌, List, [], ◌∷◌, ◌++◌, length, get_or, take, drop, set, Some, None, sym, ap, ◌∙◌, arith}
 use Rattle.std.proofs.lemmas.List.{at_drop_more, at_drop_all, take_all, take_more, length-take-le}
 use Rattle.basics.specs.Pages.{over}
 use Rattle.basics.proofs.Over.{put_more, set_pasted, length_over}
@@ -6,16 +6,16 @@ use Rattle.quoting.specs.declared.form.State.{State}
 use Rattle.quoting.specs.declared.form.Step.TheVariants.{Delivers}
 use Rattle.quoting.specs.Forms.{step, delivered, unquoted}
 use Rattle.quoting.specs.Unquoting.{text_of}
-use Rattle.quoting.specs.Steps.{passes, delivers, stops}
+use Rattle.quoting.specs.Steps.{by_step}
 use Rattle.quoting.proofs.Delivering.{Next, next_byte, all_delivered}
 use Rattle.quoting.proofs.unquote.deliver.Goals as goal
 
 -- the byte that a form delivers at i is the next of its text
 next : (form text : List ℕ) (s t : State) (i at : ℕ) → i < length form → delivered s (drop i form) ≡ Some (drop at text)
-    → step s (get_or form i 0) ≡ Delivers t → Next text at (get_or form i 0) (delivered t (drop (i + 1) form))
+    → step s (get_or form i 0) ≡ Some (Delivers t) → Next text at (get_or form i 0) (delivered t (drop (i + 1) form))
 next form text s t i at h inv e =
     next_byte text at (get_or form i 0) (delivered t (drop (i + 1) form))
-    (sym (at_drop_more (delivered s) form i 0 h ∙ delivers s (get_or form i 0) e (drop (i + 1) form)) ∙ inv)
+    (sym (at_drop_more (delivered s) form i 0 h ∙ by_step s (get_or form i 0) e (drop (i + 1) form)) ∙ inv)
 
 -- one byte more of the text in the part
 stored : (text base part : List ℕ) (at b : ℕ) → at < length text → length text ≤ length base → b ≡ get_or text at 0 → part ≡ over (take at text) base
@@ -30,15 +30,16 @@ pub bounds-part-at : goal.bounds-part-at
 bounds-part-at c =
     let form = c.args.form.now in
     let text = text_of (unquoted form) in
-    let n = next form text c.loop-b.state c.in-Delivers.next c.loop-b.b-index c.loop-b.at c.loop-b-test.true c.loop-b.invariant.0 (sym c.in-Delivers.ensures) in
+    let n = next form text c.loop-b.state c.in-Delivers.next c.loop-b.b-index c.loop-b.at c.loop-b-test.true c.loop-b.invariant.0 (sym c.step.ensures ∙ c.in-Some.is ∙ ap (λ x. Some x) c.in-Delivers.is) in
     omega (arith, n.within, c.loop-b.auto.part)
 
-pub returns-in-Unlawful : goal.returns-in-Unlawful
-returns-in-Unlawful c =
+pub returns-in_default : goal.returns-in_default
+returns-in_default c =
     let form = c.args.form.now in
     let i = c.loop-b.b-index in
     let s = c.loop-b.state in
-    let none = stops s (get_or form i 0) (sym c.in-Unlawful.ensures) (drop (i + 1) form) in
+    let gone : step s (get_or form i 0) ≡ None = sym c.step.ensures ∙ c.in_default.is in
+    let none = by_step s (get_or form i 0) gone (drop (i + 1) form) in
     let more = at_drop_more (delivered s) form i 0 c.loop-b-test.true in
     let some = c.loop-b.invariant.0 in
     let z : ◌≡◌ {A = ℕ} 0 1 = cc in absurd (omega arith)
@@ -50,16 +51,16 @@ loop-b-preserved c =
     let i = c.loop-b.b-index in
     let s = c.loop-b.state in
     let at = c.loop-b.at in
-    elim c.match-step.branch [
+    elim c.match-step-2.branch [
       | goal.in-Passes w ↦ (
         ap (λ t. delivered t (drop (i + 1) form)) w.state-is
-            ∙ sym (at_drop_more (delivered s) form i 0 c.loop-b-test.true ∙ passes s (get_or form i 0) (sym w.in-Passes.ensures) (drop (i + 1) form)) ∙ c.loop-b.invariant.0
+            ∙ sym (at_drop_more (delivered s) form i 0 c.loop-b-test.true ∙ by_step s (get_or form i 0) (sym c.step.ensures ∙ c.in-Some.is ∙ ap (λ x. Some x) w.in-Passes.is) (drop (i + 1) form)) ∙ c.loop-b.invariant.0
             ∙ ap (λ n. Some (drop n text)) (sym w.at-is),
         w.part-is ∙ c.loop-b.invariant.1 ∙ ap (λ n. over (take n text) c.args.part.now) (sym w.at-is),
         omega (arith, w.at-is, c.loop-b.invariant.2),
       )
       | goal.in-Delivers w ↦
-          (let n = next form text s w.in-Delivers.next i at c.loop-b-test.true c.loop-b.invariant.0 (sym w.in-Delivers.ensures) in (
+          (let n = next form text s w.in-Delivers.next i at c.loop-b-test.true c.loop-b.invariant.0 (sym c.step.ensures ∙ c.in-Some.is ∙ ap (λ x. Some x) w.in-Delivers.is) in (
             ap (λ t. delivered t (drop (i + 1) form)) w.state-is ∙ n.is_rest ∙ ap (λ m. Some (drop m text)) (sym w.at-is),
             w.part-is ∙ stored text c.args.part.now c.loop-b.part at (get_or form i 0) n.within c.requires.form_in_bounds n.is_byte c.loop-b.invariant.1
                 ∙ ap (λ m. over (take m text) c.args.part.now) (sym w.at-is),
