@@ -1,3 +1,5 @@
-pub mod Letters
+mod Letters
+mod Paging
 mod Turning
 mod Passing
+mod Keeping

@@ -1,17 +1,12 @@
 -- Reading onto a sheet, one turn at a time. Assumes nothing.
 use Rattle.std.proofs.Common.{◌≡◌, ℕ, zero, suc, ◌+◌, ◌<◌, ◌≤◌, Bool, true, false, cond, List, [], ◌∷◌, length, Some, None, Ok, Err, Option, Result, sym, refl, ap, ◌∙◌, arith}
-use Rattle.std.proofs.lemmas.List.{length-take-le}
-use Rattle.std.specs.Str.{bytes_eq}
-use Rattle.aliases.specs.declared.table.AliasTable.{AliasTable}
-use Rattle.aliases.specs.declared.alias.Alias.{Alias}
-use Rattle.aliases.specs.Rows.{look_up, name_of, value_of}
-use Rattle.aliases.specs.Tables.{aliases_of, rows}
+use Rattle.aliases.specs.Tables.{aliases_of}
 use Rattle.basics.specs.Checks.{refusal}
 use Rattle.basics.specs.declared.refusal.Refusal.{Refusal}
 use Rattle.basics.specs.declared.refusal.Reason.TheVariants.{TooManyReplacements}
 use Rattle.source.specs.declared.symbol.Symbol.{Symbol}
 use Rattle.source.specs.Symbols.{aliased, first, rest}
-use Rattle.source.specs.Replacing.{stands_for, is_listed, closed, outer, replace_answer, replaced_coming, replaced_left, replaced_names}
+use Rattle.source.specs.Replacing.{stands_for, closed, outer, replace_answer, replaced_coming, replaced_left, replaced_names}
 use Rattle.source.specs.declared.symbol.Sign.{Sign}
 use Rattle.source.specs.declared.symbol.Sign.TheVariants.{Byte, Hole, AliasEnd}
 use Rattle.reading.specs.declared.act.Act.TheVariants as act
@@ -20,8 +15,11 @@ use Rattle.reading.specs.Moves.{end, without_word}
 use Rattle.reading.specs.Readings.{Aliases}
 use Rattle.reading.specs.States.{Control}
 use Rattle.reader.specs.Held.{lays_move}
-use Rattle.reader.specs.Onto.{Sheets, on_to, or_replaced, read_on, sign_move, names_after}
-use Rattle.reader.specs.Turns.{candidate_next, own, place_next, still}
+use Rattle.reader.specs.Sheets.{Sheets}
+use Rattle.reader.specs.Onto.{on_to, or_replaced, read_on, sign_move, names_after}
+use Rattle.source.specs.Front.{Front}
+use Rattle.source.specs.Fronts.{onward}
+use Rattle.reader.specs.Turns.{candidate_next, own, place_next, reads_from, still}
 
 module _ {S : Type 0} (W : Sheets S) (al : Aliases) (e : ℕ) where
   abbrev pub puts_at : ℕ → List Symbol → ℕ → List (List ℕ) → Control → S → List ℕ → List ℕ → Result S Refusal
@@ -41,7 +39,7 @@ module _ {S : Type 0} (W : Sheets S) (al : Aliases) (e : ℕ) where
   turned n (x ∷ ss) ns c s =
       is_on_to n (x ∷ ss) ns c s
       ∙ (λ i. or_replaced W al ns (cond (candidate_next (Some x) c) (Some c.at.word.kept) None) (puts_at n (x ∷ ss) x.place ns c s)
-      (and (sign_move W.written W.placed W.filled x.sign x.place c s) (λ h. sym (is_on_to n ss (names_after x.sign ns) h.at h.sheet) i)))
+      (and (sign_move W x.sign x.place c s) (λ h. sym (is_on_to n ss (names_after x.sign ns) h.at h.sheet) i)))
 
   module _ (n : ℕ) (ss : List Symbol) (ns : List (List ℕ)) (c : Control) (s : S) where
     pub no_word : candidate_next (first ss) c ≡ false → read_on W al e n ss ns c s ≡ own W al e n ss ns c s
@@ -63,17 +61,17 @@ module _ {S : Type 0} (W : Sheets S) (al : Aliases) (e : ℕ) where
 
   -- the end's own work, and a symbol's
   pub own_at_end : (n : ℕ) (ss : List Symbol) (ns : List (List ℕ)) (c : Control) (s : S) → None ≡ first ss
-      → own W al e n ss ns c s ≡ and (lays_move W.written W.placed e (end c) s) (λ h. Ok h.sheet)
+      → own W al e n ss ns c s ≡ and (lays_move W e (end c) s) (λ h. Ok h.sheet)
   own_at_end n [] ns c s h = refl
   own_at_end n (x ∷ ss) ns c s h = let z : ◌≡◌ {A = ℕ} 0 1 = cc in absurd (omega arith)
 
   pub own_at_symbol : (n : ℕ) (ss : List Symbol) (ns : List (List ℕ)) (c : Control) (s : S) (x : Symbol) → Some x ≡ first ss
       → own W al e n ss ns c s
-      ≡ and (sign_move W.written W.placed W.filled x.sign x.place c s) (λ h. read_on W al e n (rest ss) (names_after x.sign ns) h.at h.sheet)
+      ≡ and (sign_move W x.sign x.place c s) (λ h. read_on W al e n (rest ss) (names_after x.sign ns) h.at h.sheet)
   own_at_symbol n [] ns c s x h = let z : ◌≡◌ {A = ℕ} 0 1 = cc in absurd (omega arith)
   own_at_symbol n (y ∷ ss) ns c s x h =
       let e' : y ≡ x = cc in
-      ap (λ (z : Symbol). and (sign_move W.written W.placed W.filled z.sign z.place c s) (λ h. read_on W al e n ss (names_after z.sign ns) h.at h.sheet)) e'
+      ap (λ (z : Symbol). and (sign_move W z.sign z.place c s) (λ h. read_on W al e n ss (names_after z.sign ns) h.at h.sheet)) e'
 
 -- a symbol less is to come
 pub fewer : (left : ℕ) (ss : List Symbol) (x : Symbol) → Some x ≡ first ss → still left (rest ss) < still left ss
@@ -89,11 +87,10 @@ named_after (y ∷ ss) ns x h = let e : y ≡ x = cc in ap (λ (z : Symbol). clo
     by_sign (Hole d) = refl
     by_sign AliasEnd = refl
 
--- a reading is the same where all that it goes by is
-pub same_reading : {S : Type 0} (W : Sheets S) {t t' : AliasTable} {e e' n n' : ℕ} {ss ss' : List Symbol} {ns ns' : List (List ℕ)} (c : Control) (s : S)
-    → t ≡ t' → e ≡ e' → n ≡ n' → ss ≡ ss' → ns ≡ ns'
-    → read_on W (aliases_of t).named e n ss ns c s ≡ read_on W (aliases_of t').named e' n' ss' ns' c s
-same_reading W c s p q r u v = λ i. read_on W (aliases_of (p i)).named (q i) (r i) (u i) (v i) c s
+-- the reading of what comes behind a symbol
+pub onward_is : {S : Type 0} (W : Sheets S) (p : Front) (x : Symbol) (c : Control) (s : S) → Some x ≡ first p.coming
+    → reads_from W (onward p) c s ≡ read_on W (aliases_of p.table).named p.end p.left (rest p.coming) (names_after x.sign p.names) c s
+onward_is W p x c s h = ap (λ (ns : List (List ℕ)). read_on W (aliases_of p.table).named p.end p.left (rest p.coming) ns c s) (named_after p.coming p.names x h)
 
 -- what an answer of the alias source tells
 
@@ -102,15 +99,11 @@ not_replaced None left place h = refl
 not_replaced (Some v) zero place h = let z : ◌≡◌ {A = ℕ} 0 1 = cc in absurd (omega arith)
 not_replaced (Some v) (suc n) place h = let z : ◌≡◌ {A = ℕ} 0 1 = cc in absurd (omega arith)
 
-length_aliased : (v : List ℕ) (p : ℕ) (ss : List Symbol) → length (aliased v p ss) ≡ length v + 1 + length ss
-length_aliased [] p ss = omega arith
-length_aliased (b ∷ v) p ss = omega (arith, length_aliased v p ss)
-
-pub fewer_replaced : (o : Option (List ℕ)) (left place : ℕ) (ss : List Symbol) → Ok true ≡ replace_answer o left place
-    → ((v : List ℕ) → o ≡ Some v → length v ≤ 64) → still (replaced_left o left) (replaced_coming o left place ss) < still left ss
-fewer_replaced None left place ss h short = let z : ◌≡◌ {A = ℕ} 0 1 = cc in absurd (omega arith)
-fewer_replaced (Some v) zero place ss h short = let z : ◌≡◌ {A = ℕ} 0 1 = cc in absurd (omega arith)
-fewer_replaced (Some v) (suc n) place ss h short = omega (arith, length_aliased v place ss, short v refl)
+pub fewer_replaced : (o : Option (List ℕ)) (left place : ℕ) (ss ts : List Symbol) → Ok true ≡ replace_answer o left place → length ts ≤ length ss + 65
+    → still (replaced_left o left) ts < still left ss
+fewer_replaced None left place ss ts h k = let z : ◌≡◌ {A = ℕ} 0 1 = cc in absurd (omega arith)
+fewer_replaced (Some v) zero place ss ts h k = let z : ◌≡◌ {A = ℕ} 0 1 = cc in absurd (omega arith)
+fewer_replaced (Some v) (suc n) place ss ts h k = omega (arith, k)
 
 module _ {S : Type 0} (W : Sheets S) (al : Aliases) (e : ℕ) (ss : List Symbol) (ns : List (List ℕ)) (c : Control) (s : S) (cand : candidate_next (first ss) c ≡ true) where
   abbrev word_kept : List ℕ
@@ -140,24 +133,3 @@ module _ {S : Type 0} (W : Sheets S) (al : Aliases) (e : ℕ) (ss : List Symbol)
   too_many None left x q h = let z : ◌≡◌ {A = ℕ} 0 1 = cc in absurd (omega arith)
   too_many (Some v) zero x q h = let d : x ≡ refusal TooManyReplacements (W.word s) = cc in ap (λ y. Err y) d ∙ sym (an_alias W al e zero ss ns c s v cand q)
   too_many (Some v) (suc n) x q h = let z : ◌≡◌ {A = ℕ} 0 1 = cc in absurd (omega arith)
-
--- a value has at most 64 bytes
-short_rows : (row : List Alias) (w v : List ℕ) → look_up row w ≡ Some v → length v ≤ 64
-short_rows [] w v h = let z : ◌≡◌ {A = ℕ} 0 1 = cc in absurd (omega arith)
-short_rows (a ∷ row) w v h = by_name (bytes_eq w (name_of a)) (short_rows row w v) h
-  where
-    by_name : (t : Bool) → (look_up row w ≡ Some v → length v ≤ 64) → cond t (Some (value_of a)) (look_up row w) ≡ Some v → length v ≤ 64
-    by_name true more q = let e : value_of a ≡ v = cc in omega (arith, ap length e, length-take-le a.value_len a.value (omega (arith, a.within)), a.within)
-    by_name false more q = more q
-
-pub short_value : (t : AliasTable) (ns : List (List ℕ)) (w v : List ℕ) → stands_for (aliases_of t).named ns w ≡ Some v → length v ≤ 64
-short_value t ns w v h = by_listed (is_listed w ns) h
-  where
-    by_listed : (b : Bool) → cond b None ((aliases_of t).named w) ≡ Some v → length v ≤ 64
-    by_listed true q = let z : ◌≡◌ {A = ℕ} 0 1 = cc in absurd (omega arith)
-    by_listed false q = short_rows (rows t) w v q
-
-pub same_own : {S : Type 0} (W : Sheets S) {t t' : AliasTable} {e e' n n' : ℕ} {ss ss' : List Symbol} {ns ns' : List (List ℕ)} (c : Control) (s : S)
-    → t ≡ t' → e ≡ e' → n ≡ n' → ss ≡ ss' → ns ≡ ns'
-    → own W (aliases_of t).named e n ss ns c s ≡ own W (aliases_of t').named e' n' ss' ns' c s
-same_own W c s p q r u v = λ i. own W (aliases_of (p i)).named (q i) (r i) (u i) (v i) c s

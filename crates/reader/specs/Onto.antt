@@ -8,9 +8,7 @@ use Rattle.source.specs.declared.symbol.Sign.TheVariants.{Byte, Hole, AliasEnd}
 use Rattle.source.specs.declared.symbol.Symbol.{Symbol}
 use Rattle.source.specs.Symbols.{aliased}
 use Rattle.source.specs.Replacing.{outer, stands_for}
-use Rattle.reading.specs.declared.act.Act.{Act}
 use Rattle.reading.specs.declared.act.Act.TheVariants as act
-use Rattle.reading.specs.declared.act.Fault.{Fault}
 use Rattle.reading.specs.Holes.{hole}
 use Rattle.tokens.specs.Bytes.{class_of, ends_word, redirects}
 use Rattle.reading.specs.Laid.{Held, held, and}
@@ -18,16 +16,7 @@ use Rattle.reading.specs.Moves.{byte, alias_end, end, name, named, without_word}
 use Rattle.reading.specs.Readings.{Aliases}
 use Rattle.reading.specs.States.{Control}
 use Rattle.reader.specs.Held.{lays_move}
-
--- what a sink does to its sheet
-pub record Sheets (S : Type 0) : Type 0 where
-  pub written : Act → ℕ → S → Result S Refusal
-  pub placed : Fault → ℕ → S → Refusal
-  pub filled : ℕ → S → Result S Refusal
-  pub word : S → ℕ
-
-abbrev pub sheets : {S : Type 0} → (Act → ℕ → S → Result S Refusal) → (Fault → ℕ → S → Refusal) → (ℕ → S → Result S Refusal) → (S → ℕ) → Sheets S
-sheets written placed filled word = record { written = written; placed = placed; filled = filled; word = word }
+use Rattle.reader.specs.Sheets.{Sheets}
 
 -- a word ends before the symbol that may be replaced
 abbrev pub candidate_is : Sign → Control → Bool
@@ -36,10 +25,10 @@ candidate_is (Hole h) c = false
 candidate_is AliasEnd c = named false c
 
 -- what a symbol does by itself
-abbrev pub sign_move : {S : Type 0} → (Act → ℕ → S → Result S Refusal) → (Fault → ℕ → S → Refusal) → (ℕ → S → Result S Refusal) → Sign → ℕ → Control → S → Result (Held Control S) Refusal
-sign_move written placed filled (Byte b) p c s = lays_move written placed p (byte b c) s
-sign_move written placed filled (Hole d) p c s = and (lays_move written placed p (hole c) s) (λ h. and (filled d h.sheet) (λ t. Ok (held h.at t)))
-sign_move written placed filled AliasEnd p c s = lays_move written placed p (alias_end c) s
+abbrev pub sign_move : {S : Type 0} → Sheets S → Sign → ℕ → Control → S → Result (Held Control S) Refusal
+sign_move W (Byte b) p c s = lays_move W p (byte b c) s
+sign_move W (Hole d) p c s = and (lays_move W p (hole c) s) (λ h. and (W.filled d h.sheet) (λ t. Ok (held h.at t)))
+sign_move W AliasEnd p c s = lays_move W p (alias_end c) s
 
 -- the names of the aliases whose ends are still to come after a symbol
 abbrev pub names_after : Sign → List (List ℕ) → List (List ℕ)
@@ -63,9 +52,9 @@ module _ {S : Type 0} (W : Sheets S) (al : Aliases) where
   -- the reading up to the next replaced word; `put` reads on with that word's value, at the place of the symbol before which it ended
   module _ (e : ℕ) (put : List Symbol → ℕ → List (List ℕ) → Control → S → List ℕ → List ℕ → Answer) where
     abbrev pub on_to : List Symbol → List (List ℕ) → Control → S → Answer
-    on_to [] ns c s = or_replaced ns (name false c) (put [] e ns c s) (and (lays_move W.written W.placed e (end c) s) (λ h. Ok h.sheet))
+    on_to [] ns c s = or_replaced ns (name false c) (put [] e ns c s) (and (lays_move W e (end c) s) (λ h. Ok h.sheet))
     on_to (x ∷ ss) ns c s =
-        or_replaced ns (candidate x.sign c) (put (x ∷ ss) x.place ns c s) (and (sign_move W.written W.placed W.filled x.sign x.place c s) (λ h. on_to ss (names_after x.sign ns) h.at h.sheet))
+        or_replaced ns (candidate x.sign c) (put (x ∷ ss) x.place ns c s) (and (sign_move W x.sign x.place c s) (λ h. on_to ss (names_after x.sign ns) h.at h.sheet))
 
   -- the reading of symbols that end at e, with at most n replacements
   unfoldable pub read_on : ℕ → ℕ → List Symbol → List (List ℕ) → Control → S → Answer

@@ -1,14 +1,15 @@
 -- Runs of letters: where a byte that is a letter does nothing else. Assumes nothing.
-use Rattle.std.specs.Prelude.{ℕ, Bool, true, false, not, ◌&&◌, Ok, Err, Result, ◌==◌}
-use Rattle.basics.specs.Bytes.{single_quote}
-use Rattle.basics.specs.declared.refusal.Refusal.{Refusal}
+use Rattle.std.specs.Prelude.{ℕ, Bool, true, false, not, ◌&&◌, ◌==◌}
+use Rattle.basics.specs.Bytes.{newline, single_quote, backslash}
 use Rattle.tokens.specs.declared.begun.Begun.{Begun}
 use Rattle.tokens.specs.declared.begun.Begun.TheVariants as begun
 use Rattle.tokens.specs.declared.class.Class.{Class}
 use Rattle.tokens.specs.declared.class.Class.TheVariants as class
 use Rattle.tokens.specs.declared.top.Top.{Top}
 use Rattle.tokens.specs.declared.top.Top.TheVariants as top
-use Rattle.tokens.specs.Bytes.{ends_word}
+use Rattle.tokens.specs.Bytes.{class_of, ends_word}
+use Rattle.tokens.specs.declared.letter.Mark.TheVariants as mark
+use Rattle.tokens.specs.Letters.{marked}
 use Rattle.tokens.specs.Expansions.{is_quotable}
 use Rattle.commands.specs.declared.line.Line.{Line}
 use Rattle.commands.specs.declared.line.Line.TheVariants as line
@@ -16,9 +17,11 @@ use Rattle.commands.specs.declared.stage.Stage.{Stage}
 use Rattle.commands.specs.declared.stage.Stage.TheVariants.{Start, Must, Head, Args, Done}
 use Rattle.reading.specs.declared.mode.Mode.{Mode}
 use Rattle.reading.specs.declared.mode.Mode.TheVariants as mode
-use Rattle.reading.specs.States.{State, top_of}
-use Rattle.reading.specs.Steps.{Step}
-use Rattle.reading.specs.Text.{in_double, in_single}
+use Rattle.reading.specs.declared.act.Act.TheVariants.{Letter, WordHere}
+use Rattle.reading.specs.States.{State, in_mode, set_word, top_of}
+use Rattle.reading.specs.Steps.{Step, does, done}
+use Rattle.reading.specs.Text.{in_command, in_double, in_single}
+use Rattle.reading.specs.Words.{bare, quoted}
 use Rattle.reader.specs.declared.runs.Run.{Run}
 use Rattle.reader.specs.declared.runs.Run.TheVariants as run
 
@@ -42,11 +45,6 @@ is_letter class.Backquote = false
 is_letter class.Hash = false
 is_letter class.Other = true
 
--- the byte is a letter in double quotes, or else in single quotes
-abbrev pub is_quoted_letter : Bool → ℕ → Bool
-is_quoted_letter true b = not (is_quotable b)
-is_quoted_letter false b = not (b == single_quote)
-
 -- the run, where nothing is begun
 abbrev pub unless_begun : Begun → Run → Run
 unless_begun begun.Nothing r = r
@@ -59,8 +57,8 @@ unless_begun (begun.Operator o) r = run.Nowhere
 
 abbrev pub text_run : Begun → Top → Run
 text_run g top.Command = unless_begun g run.Bare
-text_run g top.Single = run.Quoted false
-text_run g top.Double = unless_begun g (run.Quoted true)
+text_run g top.Single = run.Single
+text_run g top.Double = unless_begun g run.Double
 
 -- only a line that is known not to be the delimiter
 abbrev pub body_run : ℕ → Line → Run
@@ -78,11 +76,6 @@ run_in g t (mode.Body n l) = body_run n l
 
 abbrev pub run_of : State → Run
 run_of i = run_in i.begun (top_of i.frames) i.word.mode
-
--- what a byte does in double quotes, or else in single quotes
-abbrev pub in_quotes : Bool → ℕ → State → Step
-in_quotes true b i = in_double b i
-in_quotes false b i = in_single b i
 
 abbrev pub is_backslash : Class → Bool
 is_backslash class.Newline = false
@@ -126,7 +119,34 @@ may_be_name i = is_before_name i.command.stage && is_plain i.word.mode
 abbrev pub is_own_work : Class → State → Bool
 is_own_work k i = not (is_backslash k) && not (ends_word k && may_be_name i)
 
--- what the whole reading comes to, where a run was passed or refused
-abbrev pub passed : {X S : Type 0} → Result X Refusal → Result S Refusal → Result S Refusal
-passed (Ok x) rest = rest
-passed (Err e) rest = Err e
+-- the byte is a letter of the run
+abbrev pub has_letter : Run → ℕ → Bool
+has_letter run.Nowhere b = false
+has_letter run.Bare b = is_letter (class_of b)
+has_letter run.Single b = not (b == single_quote)
+has_letter run.Double b = not (is_quotable b)
+has_letter (run.Body n) b = not (b == newline)
+
+-- what a letter of the run does
+abbrev pub letter_of : Run → ℕ → State → Step
+letter_of run.Nowhere b i = done i
+letter_of run.Bare b i = bare b WordHere i
+letter_of run.Single b i = quoted b WordHere i
+letter_of run.Double b i = quoted b WordHere i
+letter_of (run.Body n) b i = does (Letter (marked mark.Body b)) (done (set_word (in_mode (mode.Body n line.Other)) i))
+
+-- a byte that is no letter of the run does its own work and nothing else
+abbrev pub has_work : Run → ℕ → State → Bool
+has_work run.Nowhere b i = false
+has_work run.Bare b i = is_own_work (class_of b) i
+has_work run.Single b i = not (b == backslash)
+has_work run.Double b i = not (b == backslash)
+has_work (run.Body n) b i = false
+
+-- and what that is
+abbrev pub work_of : Run → ℕ → State → Step
+work_of run.Nowhere b i = done i
+work_of run.Bare b i = in_command (class_of b) b i
+work_of run.Single b i = in_single b i
+work_of run.Double b i = in_double b i
+work_of (run.Body n) b i = done i

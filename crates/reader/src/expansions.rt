@@ -1,13 +1,11 @@
 // Expansions: what follows a `$`.
 ghost use Rattle.std.specs.Prelude.{◌≡◌, true, [], ◌∷◌, length, nat_lt};
-ghost use Rattle.reading.specs.Laid.{held};
-ghost use Rattle.reader.specs.Held.{result_of, lays};
-ghost use Rattle.commands.specs.Redirections.{is_target};
+ghost use Rattle.reader.specs.Pens.{Lays};
 ghost use Rattle.reading.specs.Expansions.{spelled, no_expansion, expanded, entered, opens, substitutes, ordinary, settle, gone_on, go_on};
 ghost use Rattle.tokens.specs.declared.begun.Begun.TheVariants.{Dollar, BraceName};
 ghost use Rattle.reader.specs.Holding.{state_of};
 
-use crate::sink::Sink;
+use crate::sink::{Pen, Sink};
 use crate::state::{Command, State};
 use crate::words::is_assigned;
 use basics::refusal::{Reason, Refusal};
@@ -15,193 +13,73 @@ use commands::awaited::Awaited;
 use commands::frame::{Frame, Outer};
 use commands::item::Kind;
 use commands::stage::Stage;
-use reading::act::{Act, At, Fault};
+use reading::act::{Act, At};
 use reading::mode::Mode;
 use tokens::begun::Begun;
 use tokens::bytes::{is_name_byte, is_name_start};
 use tokens::class::class_of;
-use tokens::letter::{Letter, Mark};
+use tokens::letter::Mark;
 use tokens::table::lengthen;
 use tokens::top::Top;
 
-fn awaits_target(a: Awaited) -> bool
-    ensures { result ≡ is_target a }
-{
-    match a {
-        Awaited::Target => true,
-        _ => false,
-    }
-}
-
 impl State {
     // Letters of an expansion, of which `rest` is begun after them.
-    fn spell_one<W: Sink>(
+    fn spell<W: Sink>(
         &mut self,
-        b: u8,
+        letters: &[u8],
         rest: Begun,
-        place: u16,
-        out: &mut W,
+        pen: &mut Pen<W>,
     ) -> Result<(), Refusal>
-        ensures { result_of result (held (state_of self.new) (W.Sink.sheet out.new)) ≡ lays W.Sink.written W.Sink.placed place (spelled (b ∷ []) rest (state_of self.old)) (W.Sink.sheet out.old) }
+        ensures { Lays W.Sink (spelled letters.now rest (state_of self.old)) pen.old result self.new pen.new }
     {
         if let Mode::Gap = self.word.mode {
-            out.put(Act::WordAtDollar, place)?;
+            pen.put(Act::WordAtDollar)?;
         }
-        out.put(
-            Act::Letter(Letter {
-                mark: Mark::Expansion,
-                byte: b,
-            }),
-            place,
-        )?;
-        self.enter();
-        self.begun = rest;
-        Ok(())
-    }
-
-    fn spell_two<W: Sink>(
-        &mut self,
-        a: u8,
-        b: u8,
-        rest: Begun,
-        place: u16,
-        out: &mut W,
-    ) -> Result<(), Refusal>
-        ensures { result_of result (held (state_of self.new) (W.Sink.sheet out.new)) ≡ lays W.Sink.written W.Sink.placed place (spelled (a ∷ b ∷ []) rest (state_of self.old)) (W.Sink.sheet out.old) }
-    {
-        if let Mode::Gap = self.word.mode {
-            out.put(Act::WordAtDollar, place)?;
-        }
-        out.put(
-            Act::Letter(Letter {
-                mark: Mark::Expansion,
-                byte: a,
-            }),
-            place,
-        )?;
-        out.put(
-            Act::Letter(Letter {
-                mark: Mark::Expansion,
-                byte: b,
-            }),
-            place,
-        )?;
-        self.enter();
-        self.begun = rest;
-        Ok(())
-    }
-
-    fn spell_three<W: Sink>(
-        &mut self,
-        a: u8,
-        b: u8,
-        c: u8,
-        rest: Begun,
-        place: u16,
-        out: &mut W,
-    ) -> Result<(), Refusal>
-        ensures { result_of result (held (state_of self.new) (W.Sink.sheet out.new)) ≡ lays W.Sink.written W.Sink.placed place (spelled (a ∷ b ∷ c ∷ []) rest (state_of self.old)) (W.Sink.sheet out.old) }
-    {
-        if let Mode::Gap = self.word.mode {
-            out.put(Act::WordAtDollar, place)?;
-        }
-        out.put(
-            Act::Letter(Letter {
-                mark: Mark::Expansion,
-                byte: a,
-            }),
-            place,
-        )?;
-        out.put(
-            Act::Letter(Letter {
-                mark: Mark::Expansion,
-                byte: b,
-            }),
-            place,
-        )?;
-        out.put(
-            Act::Letter(Letter {
-                mark: Mark::Expansion,
-                byte: c,
-            }),
-            place,
-        )?;
+        pen.letters(Mark::Expansion, letters)?;
         self.enter();
         self.begun = rest;
         Ok(())
     }
 
     // In a delimiter no expansion stands.
-    fn no_expansion<W: Sink>(&mut self, place: u16, out: &mut W) -> Result<(), Refusal>
-        ensures { result_of result (held (state_of self.new) (W.Sink.sheet out.new)) ≡ lays W.Sink.written W.Sink.placed place (no_expansion (state_of self.old)) (W.Sink.sheet out.old) }
+    fn no_expansion<W: Sink>(&mut self, pen: &mut Pen<W>) -> Result<(), Refusal>
+        ensures { Lays W.Sink (no_expansion (state_of self.old)) pen.old result self.new pen.new }
     {
         if let Mode::Gap = self.word.mode {
-            out.put(Act::WordAtDollar, place)?;
+            pen.put(Act::WordAtDollar)?;
         }
-        Err(out.refusal(
-            Fault {
-                reason: Reason::HereDocument,
-                at: At::First,
-            },
-            place,
-        ))
+        Err(pen.refusal(Reason::HereDocument, At::First))
     }
 
-    // The same where it is known to be one that is taken.
-    fn expand_one<W: Sink>(
+    // Letters of an expansion that is known to be one, unless the word is a delimiter.
+    fn expand<W: Sink>(
         &mut self,
-        b: u8,
+        letters: &[u8],
         rest: Begun,
-        place: u16,
-        out: &mut W,
+        pen: &mut Pen<W>,
     ) -> Result<(), Refusal>
-        ensures { result_of result (held (state_of self.new) (W.Sink.sheet out.new)) ≡ lays W.Sink.written W.Sink.placed place (expanded (b ∷ []) rest (state_of self.old)) (W.Sink.sheet out.old) }
+        ensures { Lays W.Sink (expanded letters.now rest (state_of self.old)) pen.old result self.new pen.new }
     {
         match self.command.awaited {
-            Awaited::Delimiter(_) => self.no_expansion(place, out),
-            _ => self.spell_one(b, rest, place, out),
-        }
-    }
-
-    fn expand_two<W: Sink>(
-        &mut self,
-        a: u8,
-        b: u8,
-        rest: Begun,
-        place: u16,
-        out: &mut W,
-    ) -> Result<(), Refusal>
-        ensures { result_of result (held (state_of self.new) (W.Sink.sheet out.new)) ≡ lays W.Sink.written W.Sink.placed place (expanded (a ∷ b ∷ []) rest (state_of self.old)) (W.Sink.sheet out.old) }
-    {
-        match self.command.awaited {
-            Awaited::Delimiter(_) => self.no_expansion(place, out),
-            _ => self.spell_two(a, b, rest, place, out),
+            Awaited::Delimiter(_) => self.no_expansion(pen),
+            _ => self.spell(letters, rest, pen),
         }
     }
 
     // `$(`: the word's letters so far are given, and a substitution opens.
-    fn open_substitution<W: Sink>(&mut self, place: u16, out: &mut W) -> Result<(), Refusal>
-        ensures { result_of result (held (state_of self.new) (W.Sink.sheet out.new)) ≡ lays W.Sink.written W.Sink.placed place (opens (state_of self.old)) (W.Sink.sheet out.old) }
+    fn open_substitution<W: Sink>(&mut self, pen: &mut Pen<W>) -> Result<(), Refusal>
+        ensures { Lays W.Sink (opens (state_of self.old)) pen.old result self.new pen.new }
     {
         if self.frames.depth() < 32 {
             if let Mode::Gap = self.word.mode {
-                out.put(Act::WordAtDollar, place)?;
+                pen.put(Act::WordAtDollar)?;
             }
-            out.put(Act::Item(Kind::Part, self.frames.depth(), At::Word), place)?;
-            out.put(
-                Act::Item(Kind::Open, self.frames.depth(), At::Dollar),
-                place,
-            )?;
+            pen.put(Act::Item(Kind::Part, self.frames.depth(), At::Word))?;
+            pen.put(Act::Item(Kind::Open, self.frames.depth(), At::Dollar))?;
             self.enter_substitution();
             Ok(())
         } else {
-            Err(out.refusal(
-                Fault {
-                    reason: Reason::TooDeep,
-                    at: At::Dollar,
-                },
-                place,
-            ))
+            Err(pen.refusal(Reason::TooDeep, At::Dollar))
         }
     }
 
@@ -213,67 +91,61 @@ impl State {
         let outer = Outer {
             stage: self.command.stage,
             assign: is_assigned(self.word.mode),
-            target: awaits_target(self.command.awaited),
+            target: matches!(self.command.awaited, Awaited::Target),
             waiting: self.documents.outside,
         };
         let _ = self.frames.push(Frame::Substitution(outer));
         self.begun = Begun::Nothing;
         self.word.set(Mode::Gap);
-        self.command = Command {
-            stage: Stage::Start,
-            awaited: Awaited::Nothing,
-        };
+        self.command = Command::at(Stage::Start);
         self.documents.outside = self.documents.waiting.count();
     }
 
-    fn substitute<W: Sink>(&mut self, place: u16, out: &mut W) -> Result<(), Refusal>
-        ensures { result_of result (held (state_of self.new) (W.Sink.sheet out.new)) ≡ lays W.Sink.written W.Sink.placed place (substitutes (state_of self.old)) (W.Sink.sheet out.old) }
+    fn substitute<W: Sink>(&mut self, pen: &mut Pen<W>) -> Result<(), Refusal>
+        ensures { Lays W.Sink (substitutes (state_of self.old)) pen.old result self.new pen.new }
     {
         match self.command.awaited {
-            Awaited::Delimiter(_) => self.no_expansion(place, out),
-            _ => self.open_substitution(place, out),
+            Awaited::Delimiter(_) => self.no_expansion(pen),
+            _ => self.open_substitution(pen),
         }
     }
 
     // A `$` that begins no expansion is a letter.
-    fn ordinary_dollar<W: Sink>(&mut self, place: u16, out: &mut W) -> Result<(), Refusal>
-        ensures { result_of result (held (state_of self.new) (W.Sink.sheet out.new)) ≡ lays W.Sink.written W.Sink.placed place (ordinary (state_of self.old)) (W.Sink.sheet out.old) }
+    fn ordinary_dollar<W: Sink>(&mut self, pen: &mut Pen<W>) -> Result<(), Refusal>
+        ensures { Lays W.Sink (ordinary (state_of self.old)) pen.old result self.new pen.new }
     {
         match self.top() {
-            Top::Command => self.bare(b'$', Act::WordAtDollar, place, out),
-            _ => self.quoted(b'$', Act::WordAtDollar, place, out),
+            Top::Command => self.bare(b'$', Act::WordAtDollar, pen),
+            _ => self.quoted(b'$', Act::WordAtDollar, pen),
         }
     }
 
     // What is begun is settled, since what comes does not go on with it.
-    pub fn settle<W: Sink>(&mut self, place: u16, out: &mut W) -> Result<(), Refusal>
-        ensures { result_of result (held (state_of self.new) (W.Sink.sheet out.new)) ≡ lays W.Sink.written W.Sink.placed place (settle (state_of self.old)) (W.Sink.sheet out.old) }
+    pub fn settle<W: Sink>(&mut self, pen: &mut Pen<W>) -> Result<(), Refusal>
+        ensures { Lays W.Sink (settle (state_of self.old)) pen.old result self.new pen.new }
     {
         match self.begun {
             Begun::Nothing => Ok(()),
             Begun::Dollar => {
                 self.begun = Begun::Nothing;
-                self.ordinary_dollar(place, out)
+                self.ordinary_dollar(pen)
             }
-            Begun::Paren => self.substitute(place, out),
+            Begun::Paren => self.substitute(pen),
             Begun::Name => {
                 self.begun = Begun::Nothing;
                 Ok(())
             }
-            Begun::Brace | Begun::BraceName => Err(out.refusal(
-                Fault {
-                    reason: Reason::ExpansionNotTaken,
-                    at: At::Dollar,
-                },
-                place,
+            Begun::Brace | Begun::BraceName => Err(pen.refusal(
+                Reason::ExpansionNotTaken,
+                At::Dollar,
             )),
-            Begun::Operator(o) => self.give(o, place, out),
+            Begun::Operator(o) => self.give(o, pen),
         }
     }
 
     // A `$` goes on with the byte.
-    fn go_on_dollar<W: Sink>(&mut self, b: u8, place: u16, out: &mut W) -> Result<(), Refusal>
-        ensures { result_of result (held (state_of self.new) (W.Sink.sheet out.new)) ≡ lays W.Sink.written W.Sink.placed place (gone_on Dollar b (state_of self.old)) (W.Sink.sheet out.old) }
+    fn go_on_dollar<W: Sink>(&mut self, b: u8, pen: &mut Pen<W>) -> Result<(), Refusal>
+        ensures { Lays W.Sink (gone_on Dollar b (state_of self.old)) pen.old result self.new pen.new }
     {
         if b == b'(' {
             self.begun = Begun::Paren;
@@ -287,61 +159,43 @@ impl State {
             } else {
                 Begun::Nothing
             };
-            self.expand_two(b'$', b, rest, place, out)
+            self.expand(&[b'$', b], rest, pen)
         }
     }
 
     // `${` and a name so far goes on with the byte.
-    fn go_on_name<W: Sink>(&mut self, b: u8, place: u16, out: &mut W) -> Result<(), Refusal>
-        ensures { result_of result (held (state_of self.new) (W.Sink.sheet out.new)) ≡ lays W.Sink.written W.Sink.placed place (gone_on BraceName b (state_of self.old)) (W.Sink.sheet out.old) }
+    fn go_on_name<W: Sink>(&mut self, b: u8, pen: &mut Pen<W>) -> Result<(), Refusal>
+        ensures { Lays W.Sink (gone_on BraceName b (state_of self.old)) pen.old result self.new pen.new }
     {
         if is_name_byte(b) {
-            self.spell_one(b, Begun::BraceName, place, out)
+            self.spell(&[b], Begun::BraceName, pen)
         } else if b == b'}' {
-            self.expand_one(b, Begun::Nothing, place, out)
+            self.expand(&[b], Begun::Nothing, pen)
         } else {
-            Err(out.refusal(
-                Fault {
-                    reason: Reason::ExpansionNotTaken,
-                    at: At::Dollar,
-                },
-                place,
-            ))
+            Err(pen.refusal(Reason::ExpansionNotTaken, At::Dollar))
         }
     }
 
     // What is begun goes on with the byte.
-    pub fn go_on<W: Sink>(&mut self, b: u8, place: u16, out: &mut W) -> Result<(), Refusal>
-        ensures { result_of result (held (state_of self.new) (W.Sink.sheet out.new)) ≡ lays W.Sink.written W.Sink.placed place (go_on b (state_of self.old)) (W.Sink.sheet out.old) }
+    pub fn go_on<W: Sink>(&mut self, b: u8, pen: &mut Pen<W>) -> Result<(), Refusal>
+        ensures { Lays W.Sink (go_on b (state_of self.old)) pen.old result self.new pen.new }
     {
         match self.begun {
             Begun::Nothing => Ok(()),
-            Begun::Dollar => self.go_on_dollar(b, place, out),
-            Begun::Paren => Err(out.refusal(
-                Fault {
-                    reason: Reason::ExpansionNotTaken,
-                    at: At::Dollar,
-                },
-                place,
-            )),
-            Begun::Name => self.expand_one(b, Begun::Name, place, out),
+            Begun::Dollar => self.go_on_dollar(b, pen),
+            Begun::Paren => Err(pen.refusal(Reason::ExpansionNotTaken, At::Dollar)),
+            Begun::Name => self.expand(&[b], Begun::Name, pen),
             Begun::Brace => {
                 if is_name_start(b) {
-                    self.spell_three(b'$', b'{', b, Begun::BraceName, place, out)
+                    self.spell(&[b'$', b'{', b], Begun::BraceName, pen)
                 } else {
-                    Err(out.refusal(
-                        Fault {
-                            reason: Reason::ExpansionNotTaken,
-                            at: At::Dollar,
-                        },
-                        place,
-                    ))
+                    Err(pen.refusal(Reason::ExpansionNotTaken, At::Dollar))
                 }
             }
-            Begun::BraceName => self.go_on_name(b, place, out),
+            Begun::BraceName => self.go_on_name(b, pen),
             Begun::Operator(o) => match lengthen(o, class_of(b)) {
-                Some(longer) => self.begin_or_give(longer, place, out),
-                None => self.give(o, place, out),
+                Some(longer) => self.begin_or_give(longer, pen),
+                None => self.give(o, pen),
             },
         }
     }

@@ -1,17 +1,16 @@
 // Where a hole is taken.
 ghost use Rattle.std.specs.Prelude.{◌≡◌};
-ghost use Rattle.reading.specs.Laid.{held};
-ghost use Rattle.reader.specs.Held.{result_of, lays};
+ghost use Rattle.reader.specs.Pens.{Lays};
 ghost use Rattle.reading.specs.Holes.{open_to_hole, not_taken, hole_at, hole_after, hole_in};
 ghost use Rattle.reader.specs.Holding.{state_of};
 
-use crate::sink::Sink;
+use crate::sink::{Pen, Sink};
 use crate::state::State;
 use crate::words::is_assigned;
 use basics::refusal::{Reason, Refusal};
 use commands::awaited::Awaited;
 use commands::stage::Stage;
-use reading::act::{Act, At, Fault};
+use reading::act::{Act, At};
 use reading::mode::{Mode, Region};
 use tokens::top::Top;
 
@@ -29,8 +28,8 @@ fn is_open_to_hole(a: Awaited, g: Stage, assign: bool) -> bool
 
 impl State {
     // Where nothing is begun. What fills a hole may open quotes, so there has to be room for their frame.
-    fn hole_at<W: Sink>(&mut self, top: Top, place: u16, out: &mut W) -> Result<(), Refusal>
-        ensures { result_of result (held (state_of self.new) (W.Sink.sheet out.new)) ≡ lays W.Sink.written W.Sink.placed place (hole_at (state_of self.old) top) (W.Sink.sheet out.old) }
+    fn hole_at<W: Sink>(&mut self, top: Top, pen: &mut Pen<W>) -> Result<(), Refusal>
+        ensures { Lays W.Sink (hole_at (state_of self.old) top) pen.old result self.new pen.new }
     {
         match top {
             Top::Command => {
@@ -39,74 +38,39 @@ impl State {
                     self.command.stage,
                     is_assigned(self.word.mode),
                 ) {
-                    return Err(out.refusal(
-                        Fault {
-                            reason: Reason::HoleNotTaken,
-                            at: At::Here,
-                        },
-                        place,
-                    ));
+                    return Err(pen.refusal(Reason::HoleNotTaken, At::Here));
                 }
                 if self.frames.depth() >= 32 {
-                    return Err(out.refusal(
-                        Fault {
-                            reason: Reason::TooDeep,
-                            at: At::Here,
-                        },
-                        place,
-                    ));
+                    return Err(pen.refusal(Reason::TooDeep, At::Here));
                 }
                 if let Mode::Gap = self.word.mode {
-                    out.put(Act::WordHere, place)?;
+                    pen.put(Act::WordHere)?;
                 }
                 self.enter();
                 Ok(())
             }
-            Top::Single | Top::Double => Err(out.refusal(
-                Fault {
-                    reason: Reason::HoleNotTaken,
-                    at: At::Here,
-                },
-                place,
-            )),
+            Top::Single | Top::Double => Err(pen.refusal(Reason::HoleNotTaken, At::Here)),
         }
     }
 
     // Not directly after a `$`, since that would be an ordinary one.
-    fn hole_after<W: Sink>(&mut self, place: u16, out: &mut W) -> Result<(), Refusal>
-        ensures { result_of result (held (state_of self.new) (W.Sink.sheet out.new)) ≡ lays W.Sink.written W.Sink.placed place (hole_after (state_of self.old)) (W.Sink.sheet out.old) }
+    fn hole_after<W: Sink>(&mut self, pen: &mut Pen<W>) -> Result<(), Refusal>
+        ensures { Lays W.Sink (hole_after (state_of self.old)) pen.old result self.new pen.new }
     {
         if self.begun.is_dollar() {
-            return Err(out.refusal(
-                Fault {
-                    reason: Reason::HoleNotTaken,
-                    at: At::Here,
-                },
-                place,
-            ));
+            return Err(pen.refusal(Reason::HoleNotTaken, At::Here));
         }
-        self.settle(place, out)?;
+        self.settle(pen)?;
         let top = self.top();
-        self.hole_at(top, place, out)
+        self.hole_at(top, pen)
     }
 
-    pub fn hole_in<W: Sink>(
-        &mut self,
-        region: Region,
-        place: u16,
-        out: &mut W,
-    ) -> Result<(), Refusal>
-        ensures { result_of result (held (state_of self.new) (W.Sink.sheet out.new)) ≡ lays W.Sink.written W.Sink.placed place (hole_in (state_of self.old) region) (W.Sink.sheet out.old) }
+    pub fn hole_in<W: Sink>(&mut self, region: Region, pen: &mut Pen<W>) -> Result<(), Refusal>
+        ensures { Lays W.Sink (hole_in (state_of self.old) region) pen.old result self.new pen.new }
     {
         match region {
-            Region::Text => self.hole_after(place, out),
-            _ => Err(out.refusal(
-                Fault {
-                    reason: Reason::HoleNotTaken,
-                    at: At::Here,
-                },
-                place,
-            )),
+            Region::Text => self.hole_after(pen),
+            _ => Err(pen.refusal(Reason::HoleNotTaken, At::Here)),
         }
     }
 }

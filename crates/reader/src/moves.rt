@@ -1,14 +1,13 @@
 // What each symbol, and the end, does to the whole control; and whether a word stands that may be replaced.
 ghost use Rattle.std.specs.Prelude.{◌≡◌, ◌&&◌};
-ghost use Rattle.reading.specs.Laid.{held};
-ghost use Rattle.reader.specs.Held.{result_of, lays, lays_move};
+ghost use Rattle.reader.specs.Pens.{Lays, LaysMove};
 ghost use Rattle.reading.specs.States.{fresh, region_of};
 ghost use Rattle.reading.specs.Holes.{hole};
 ghost use Rattle.commands.specs.Redirections.{is_free};
 ghost use Rattle.reading.specs.Moves.{is_must, byte, byte_escaped, alias_end, unfinished, finish, last_line, end_in, end, plain_name, name_here, named, without_word};
 ghost use Rattle.reader.specs.Holding.{state_of, control_of};
 
-use crate::sink::Sink;
+use crate::sink::{Pen, Sink};
 use crate::state::{Command, Documents, Reader, State, Word};
 use basics::refusal::{Reason, Refusal};
 use basics::stack::Stack;
@@ -17,7 +16,7 @@ use commands::frame::Frame;
 use commands::queue::Queue;
 use commands::role::is_name;
 use commands::stage::Stage;
-use reading::act::{Act, At, Fault};
+use reading::act::{Act, At};
 use reading::mode::{Mode, Region};
 use tokens::begun::Begun;
 use tokens::kept::Kept;
@@ -38,35 +37,16 @@ fn region_of(m: Mode, t: Top) -> Region
 fn is_plain_name(redirected: bool, m: Mode) -> bool
     ensures { result ≡ plain_name redirected m }
 {
-    match m {
-        Mode::Plain(o) => !(redirected && o.is_number()),
-        _ => false,
-    }
-}
-
-fn is_free(a: Awaited) -> bool
-    ensures { result ≡ is_free a }
-{
-    match a {
-        Awaited::Nothing => true,
-        _ => false,
-    }
-}
-
-fn is_must(g: Stage) -> bool
-    ensures { result ≡ is_must g }
-{
-    match g {
-        Stage::Must => true,
-        _ => false,
-    }
+    matches!(m, Mode::Plain(o) if !(redirected && o.is_number()))
 }
 
 impl State {
     fn is_unfinished(&self) -> bool
         ensures { result ≡ unfinished (state_of self.now) }
     {
-        is_must(self.command.stage) || !is_free(self.command.awaited) || self.frames.depth() > 0
+        matches!(self.command.stage, Stage::Must)
+            || !matches!(self.command.awaited, Awaited::Nothing)
+            || self.frames.depth() > 0
     }
 
     // A plain word stands that would be a command's name.
@@ -75,42 +55,30 @@ impl State {
     {
         self.begun.is_nothing()
             && is_plain_name(redirected, self.word.mode)
-            && is_free(self.command.awaited)
+            && matches!(self.command.awaited, Awaited::Nothing)
             && is_name(self.use_here())
     }
 
-    fn finish<W: Sink>(&mut self, place: u16, out: &mut W) -> Result<(), Refusal>
-        ensures { result_of result (held (state_of self.new) (W.Sink.sheet out.new)) ≡ lays W.Sink.written W.Sink.placed place (finish (state_of self.old)) (W.Sink.sheet out.old) }
+    fn finish<W: Sink>(&mut self, pen: &mut Pen<W>) -> Result<(), Refusal>
+        ensures { Lays W.Sink (finish (state_of self.old)) pen.old result self.new pen.new }
     {
         if self.is_unfinished() {
-            Err(out.refusal(
-                Fault {
-                    reason: Reason::Unfinished,
-                    at: At::Here,
-                },
-                place,
-            ))
+            Err(pen.refusal(Reason::Unfinished, At::Here))
         } else if self.documents.waits() {
-            Err(out.refusal(
-                Fault {
-                    reason: Reason::HereDocument,
-                    at: At::Here,
-                },
-                place,
-            ))
+            Err(pen.refusal(Reason::HereDocument, At::Here))
         } else {
             Ok(())
         }
     }
 
     // The last line of a body may lack its newline.
-    fn last_line<W: Sink>(&mut self, place: u16, out: &mut W) -> Result<(), Refusal>
-        ensures { result_of result (held (state_of self.new) (W.Sink.sheet out.new)) ≡ lays W.Sink.written W.Sink.placed place (last_line (state_of self.old)) (W.Sink.sheet out.old) }
+    fn last_line<W: Sink>(&mut self, pen: &mut Pen<W>) -> Result<(), Refusal>
+        ensures { Lays W.Sink (last_line (state_of self.old)) pen.old result self.new pen.new }
     {
         match self.word.mode {
             Mode::Body(n, line) => {
                 if self.documents.waiting.line_is(n, line) {
-                    self.body_ends(n, place, out)
+                    self.body_ends(n, pen)
                 } else {
                     Ok(())
                 }
@@ -119,35 +87,29 @@ impl State {
         }
     }
 
-    fn end_in<W: Sink>(&mut self, top: Top, place: u16, out: &mut W) -> Result<(), Refusal>
-        ensures { result_of result (held (state_of self.new) (W.Sink.sheet out.new)) ≡ lays W.Sink.written W.Sink.placed place (end_in (state_of self.old) top) (W.Sink.sheet out.old) }
+    fn end_in<W: Sink>(&mut self, top: Top, pen: &mut Pen<W>) -> Result<(), Refusal>
+        ensures { Lays W.Sink (end_in (state_of self.old) top) pen.old result self.new pen.new }
     {
         match top {
             Top::Command => {
-                self.word_ends(false, place, out)?;
-                self.last_line(place, out)?;
-                self.finish(place, out)
+                self.word_ends(false, pen)?;
+                self.last_line(pen)?;
+                self.finish(pen)
             }
-            Top::Single | Top::Double => Err(out.refusal(
-                Fault {
-                    reason: Reason::OpenQuote,
-                    at: At::Here,
-                },
-                place,
-            )),
+            Top::Single | Top::Double => Err(pen.refusal(Reason::OpenQuote, At::Here)),
         }
     }
 
     // After a backslash: with a newline both are dropped; before any other byte the backslash stands, and what is begun is settled.
-    fn byte_escaped<W: Sink>(&mut self, b: u8, place: u16, out: &mut W) -> Result<(), Refusal>
-        ensures { result_of result (held (state_of self.new) (W.Sink.sheet out.new)) ≡ lays W.Sink.written W.Sink.placed place (byte_escaped b (state_of self.old)) (W.Sink.sheet out.old) }
+    fn byte_escaped<W: Sink>(&mut self, b: u8, pen: &mut Pen<W>) -> Result<(), Refusal>
+        ensures { Lays W.Sink (byte_escaped b (state_of self.old)) pen.old result self.new pen.new }
     {
         if b == b'\n' {
             return Ok(());
         }
-        self.settle(place, out)?;
+        self.settle(pen)?;
         let top = self.top();
-        self.escaped(b, top, place, out)
+        self.escaped(b, top, pen)
     }
 }
 
@@ -177,77 +139,65 @@ impl Reader {
         }
     }
 
-    pub fn byte<W: Sink>(&mut self, b: u8, place: u16, out: &mut W) -> Result<(), Refusal>
-        ensures { result_of result (held (control_of self.new) (W.Sink.sheet out.new)) ≡ lays_move W.Sink.written W.Sink.placed place (byte b (control_of self.old)) (W.Sink.sheet out.old) }
+    pub fn byte<W: Sink>(&mut self, b: u8, pen: &mut Pen<W>) -> Result<(), Refusal>
+        ensures { LaysMove W.Sink (byte b (control_of self.old)) pen.old result self.new pen.new }
     {
         if self.escape {
             self.escape = false;
-            return self.at.byte_escaped(b, place, out);
+            return self.at.byte_escaped(b, pen);
         }
         let top = self.at.top();
         match region_of(self.at.word.mode, top) {
             Region::Text => {
                 if b == b'\\' {
-                    out.put(Act::BackslashHere, place)?;
+                    pen.put(Act::BackslashHere)?;
                     self.escape = true;
                     Ok(())
                 } else {
-                    self.at.in_text(b, place, out)
+                    self.at.in_text(b, pen)
                 }
             }
-            Region::Single => self.at.in_single(b, place, out),
-            Region::Comment => self.at.in_comment(b, place, out),
-            Region::Body(n, line) => self.at.in_body(b, n, line, place, out),
+            Region::Single => self.at.in_single(b, pen),
+            Region::Comment => self.at.in_comment(b, pen),
+            Region::Body(n, line) => self.at.in_body(b, n, line, pen),
         }
     }
 
     // After a backslash what is begun is settled, and the hole is not taken.
-    pub fn hole<W: Sink>(&mut self, place: u16, out: &mut W) -> Result<(), Refusal>
-        ensures { result_of result (held (control_of self.new) (W.Sink.sheet out.new)) ≡ lays_move W.Sink.written W.Sink.placed place (hole (control_of self.old)) (W.Sink.sheet out.old) }
+    pub fn hole<W: Sink>(&mut self, pen: &mut Pen<W>) -> Result<(), Refusal>
+        ensures { LaysMove W.Sink (hole (control_of self.old)) pen.old result self.new pen.new }
     {
         if self.escape {
             self.escape = false;
-            self.at.settle(place, out)?;
-            return Err(out.refusal(
-                Fault {
-                    reason: Reason::HoleNotTaken,
-                    at: At::Here,
-                },
-                place,
-            ));
+            self.at.settle(pen)?;
+            return Err(pen.refusal(Reason::HoleNotTaken, At::Here));
         }
         let top = self.at.top();
         let region = region_of(self.at.word.mode, top);
-        self.at.hole_in(region, place, out)
+        self.at.hole_in(region, pen)
     }
 
     // The end of an alias's value ends the word.
-    pub fn alias_end<W: Sink>(&mut self, place: u16, out: &mut W) -> Result<(), Refusal>
-        ensures { result_of result (held (control_of self.new) (W.Sink.sheet out.new)) ≡ lays_move W.Sink.written W.Sink.placed place (alias_end (control_of self.old)) (W.Sink.sheet out.old) }
+    pub fn alias_end<W: Sink>(&mut self, pen: &mut Pen<W>) -> Result<(), Refusal>
+        ensures { LaysMove W.Sink (alias_end (control_of self.old)) pen.old result self.new pen.new }
     {
         self.escape = false;
-        self.at.settle(place, out)?;
-        self.at.word_ends(false, place, out)
+        self.at.settle(pen)?;
+        self.at.word_ends(false, pen)
     }
 
     // The end of the text.
-    pub fn end<W: Sink>(&mut self, place: u16, out: &mut W) -> Result<(), Refusal>
-        ensures { result_of result (held (control_of self.new) (W.Sink.sheet out.new)) ≡ lays_move W.Sink.written W.Sink.placed place (end (control_of self.old)) (W.Sink.sheet out.old) }
+    pub fn end<W: Sink>(&mut self, pen: &mut Pen<W>) -> Result<(), Refusal>
+        ensures { LaysMove W.Sink (end (control_of self.old)) pen.old result self.new pen.new }
     {
         let escape = self.escape;
         self.escape = false;
-        self.at.settle(place, out)?;
+        self.at.settle(pen)?;
         if escape {
-            return Err(out.refusal(
-                Fault {
-                    reason: Reason::OpenQuote,
-                    at: At::Here,
-                },
-                place,
-            ));
+            return Err(pen.refusal(Reason::OpenQuote, At::Here));
         }
         let top = self.at.top();
-        self.at.end_in(top, place, out)
+        self.at.end_in(top, pen)
     }
 
     // A plain word ends here that would be a command's name, so that it may be replaced.

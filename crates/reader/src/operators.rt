@@ -1,13 +1,12 @@
 // Operators are begun, lengthened and given.
 ghost use Rattle.std.specs.Prelude.{◌≡◌};
-ghost use Rattle.reading.specs.Laid.{held};
-ghost use Rattle.reader.specs.Held.{result_of, lays};
+ghost use Rattle.reader.specs.Pens.{Lays};
 ghost use Rattle.commands.specs.declared.sort.Sort.TheVariants.{Opens};
 ghost use Rattle.reading.specs.States.{waits, innermost, top_of};
 ghost use Rattle.reading.specs.Operators.{next_body, leaves, closes, led, give, begun_or_given, begin};
 ghost use Rattle.reader.specs.Holding.{documents_of, state_of};
 
-use crate::sink::Sink;
+use crate::sink::{Pen, Sink};
 use crate::state::{Command, Documents, State};
 use basics::refusal::{Reason, Refusal};
 use commands::awaited::{Awaited, awaited_by};
@@ -16,7 +15,7 @@ use commands::item::Kind;
 use commands::line::Line;
 use commands::sort::{Sort, leads_to, sort_of};
 use commands::stage::Stage;
-use reading::act::{Act, At, Fault};
+use reading::act::{Act, At};
 use reading::mode::Mode;
 use tokens::begun::Begun;
 use tokens::operator::Operator;
@@ -44,11 +43,11 @@ impl State {
     }
 
     // The body of the n-th here-document is read next, or, behind the last, no more of them wait.
-    pub fn next_body<W: Sink>(&mut self, n: usize, place: u16, out: &mut W) -> Result<(), Refusal>
-        ensures { result_of result (held (state_of self.new) (W.Sink.sheet out.new)) ≡ lays W.Sink.written W.Sink.placed place (next_body n (state_of self.old)) (W.Sink.sheet out.old) }
+    pub fn next_body<W: Sink>(&mut self, n: usize, pen: &mut Pen<W>) -> Result<(), Refusal>
+        ensures { Lays W.Sink (next_body n (state_of self.old)) pen.old result self.new pen.new }
     {
         if n < self.documents.waiting.count() {
-            out.put(Act::BodyNext, place)?;
+            pen.put(Act::BodyNext)?;
             self.word.set(Mode::Body(n, Line::Fresh));
         } else {
             let outside = self.documents.outside;
@@ -59,22 +58,13 @@ impl State {
     }
 
     // A substitution closes, and the word that it stands in goes on.
-    fn leave<W: Sink>(&mut self, outer: Outer, place: u16, out: &mut W) -> Result<(), Refusal>
-        ensures { result_of result (held (state_of self.new) (W.Sink.sheet out.new)) ≡ lays W.Sink.written W.Sink.placed place (leaves outer (state_of self.old)) (W.Sink.sheet out.old) }
+    fn leave<W: Sink>(&mut self, outer: Outer, pen: &mut Pen<W>) -> Result<(), Refusal>
+        ensures { Lays W.Sink (leaves outer (state_of self.old)) pen.old result self.new pen.new }
     {
         if self.documents.waits() {
-            return Err(out.refusal(
-                Fault {
-                    reason: Reason::HereDocument,
-                    at: At::Operator,
-                },
-                place,
-            ));
+            return Err(pen.refusal(Reason::HereDocument, At::Operator));
         }
-        out.put(
-            Act::Item(Kind::Close, self.frames.depth(), At::Operator),
-            place,
-        )?;
+        pen.put(Act::Item(Kind::Close, self.frames.depth(), At::Operator))?;
         self.begun = Begun::Nothing;
         self.word.set(Mode::Mixed(outer.assign));
         self.frames.pop();
@@ -92,37 +82,19 @@ impl State {
     }
 
     // `)`, by the innermost frame.
-    fn close<W: Sink>(
-        &mut self,
-        o: Operator,
-        stage: Stage,
-        place: u16,
-        out: &mut W,
-    ) -> Result<(), Refusal>
-        ensures { result_of result (held (state_of self.new) (W.Sink.sheet out.new)) ≡ lays W.Sink.written W.Sink.placed place (closes o stage (innermost (state_of self.old).frames) (state_of self.old)) (W.Sink.sheet out.old) }
+    fn close<W: Sink>(&mut self, o: Operator, stage: Stage, pen: &mut Pen<W>) -> Result<(), Refusal>
+        ensures { Lays W.Sink (closes o stage (innermost (state_of self.old).frames) (state_of self.old)) pen.old result self.new pen.new }
     {
         match self.frames.top() {
             Some(Frame::Group) => {
-                out.put(
-                    Act::Item(Kind::Operator(o), self.frames.depth(), At::Operator),
-                    place,
-                )?;
+                pen.put(Act::Item(Kind::Operator(o), self.frames.depth(), At::Operator))?;
                 self.begun = Begun::Nothing;
                 self.frames.pop();
-                self.command = Command {
-                    stage,
-                    awaited: Awaited::Nothing,
-                };
+                self.command = Command::at(stage);
                 Ok(())
             }
-            Some(Frame::Substitution(outer)) => self.leave(outer, place, out),
-            _ => Err(out.refusal(
-                Fault {
-                    reason: Reason::OutOfPlace,
-                    at: At::Operator,
-                },
-                place,
-            )),
+            Some(Frame::Substitution(outer)) => self.leave(outer, pen),
+            _ => Err(pen.refusal(Reason::OutOfPlace, At::Operator)),
         }
     }
 
@@ -131,31 +103,18 @@ impl State {
         &mut self,
         o: Operator,
         stage: Stage,
-        place: u16,
-        out: &mut W,
+        pen: &mut Pen<W>,
     ) -> Result<(), Refusal>
-        ensures { result_of result (held (state_of self.new) (W.Sink.sheet out.new)) ≡ lays W.Sink.written W.Sink.placed place (led o stage Opens (state_of self.old)) (W.Sink.sheet out.old) }
+        ensures { Lays W.Sink (led o stage Opens (state_of self.old)) pen.old result self.new pen.new }
     {
         if self.frames.depth() < 32 {
-            out.put(
-                Act::Item(Kind::Operator(o), self.frames.depth(), At::Operator),
-                place,
-            )?;
+            pen.put(Act::Item(Kind::Operator(o), self.frames.depth(), At::Operator))?;
             self.begun = Begun::Nothing;
             let _ = self.frames.push(Frame::Group);
-            self.command = Command {
-                stage,
-                awaited: Awaited::Nothing,
-            };
+            self.command = Command::at(stage);
             Ok(())
         } else {
-            Err(out.refusal(
-                Fault {
-                    reason: Reason::TooDeep,
-                    at: At::Operator,
-                },
-                place,
-            ))
+            Err(pen.refusal(Reason::TooDeep, At::Operator))
         }
     }
 
@@ -165,51 +124,29 @@ impl State {
         o: Operator,
         stage: Stage,
         sort: Sort,
-        place: u16,
-        out: &mut W,
+        pen: &mut Pen<W>,
     ) -> Result<(), Refusal>
-        ensures { result_of result (held (state_of self.new) (W.Sink.sheet out.new)) ≡ lays W.Sink.written W.Sink.placed place (led o stage sort (state_of self.old)) (W.Sink.sheet out.old) }
+        ensures { Lays W.Sink (led o stage sort (state_of self.old)) pen.old result self.new pen.new }
     {
         match sort {
             Sort::Newline => {
-                out.put(
-                    Act::Item(Kind::Operator(o), self.frames.depth(), At::Operator),
-                    place,
-                )?;
+                pen.put(Act::Item(Kind::Operator(o), self.frames.depth(), At::Operator))?;
                 self.begun = Begun::Nothing;
-                self.command = Command {
-                    stage,
-                    awaited: Awaited::Nothing,
-                };
+                self.command = Command::at(stage);
                 let outside = self.documents.outside;
-                self.next_body(outside, place, out)
+                self.next_body(outside, pen)
             }
             Sort::Ends | Sort::Joins => {
-                out.put(
-                    Act::Item(Kind::Operator(o), self.frames.depth(), At::Operator),
-                    place,
-                )?;
+                pen.put(Act::Item(Kind::Operator(o), self.frames.depth(), At::Operator))?;
                 self.begun = Begun::Nothing;
-                self.command = Command {
-                    stage,
-                    awaited: Awaited::Nothing,
-                };
+                self.command = Command::at(stage);
                 Ok(())
             }
-            Sort::Misplaced => Err(out.refusal(
-                Fault {
-                    reason: Reason::OutOfPlace,
-                    at: At::Operator,
-                },
-                place,
-            )),
-            Sort::Opens => self.open_group(o, stage, place, out),
-            Sort::Closes => self.close(o, stage, place, out),
+            Sort::Misplaced => Err(pen.refusal(Reason::OutOfPlace, At::Operator)),
+            Sort::Opens => self.open_group(o, stage, pen),
+            Sort::Closes => self.close(o, stage, pen),
             Sort::Redirects => {
-                out.put(
-                    Act::Item(Kind::Operator(o), self.frames.depth(), At::Operator),
-                    place,
-                )?;
+                pen.put(Act::Item(Kind::Operator(o), self.frames.depth(), At::Operator))?;
                 self.begun = Begun::Nothing;
                 self.documents.letters.clear();
                 self.command = Command {
@@ -222,44 +159,27 @@ impl State {
     }
 
     // The operator is given; where a redirection awaits its word, only a word may stand.
-    pub fn give<W: Sink>(&mut self, o: Operator, place: u16, out: &mut W) -> Result<(), Refusal>
-        ensures { result_of result (held (state_of self.new) (W.Sink.sheet out.new)) ≡ lays W.Sink.written W.Sink.placed place (give o (state_of self.old)) (W.Sink.sheet out.old) }
+    pub fn give<W: Sink>(&mut self, o: Operator, pen: &mut Pen<W>) -> Result<(), Refusal>
+        ensures { Lays W.Sink (give o (state_of self.old)) pen.old result self.new pen.new }
     {
         match self.command.awaited {
             Awaited::Nothing => match leads_to(sort_of(o), self.command.stage) {
-                Some(stage) => self.lead(o, stage, sort_of(o), place, out),
-                None => Err(out.refusal(
-                    Fault {
-                        reason: Reason::OutOfPlace,
-                        at: At::Operator,
-                    },
-                    place,
-                )),
+                Some(stage) => self.lead(o, stage, sort_of(o), pen),
+                None => Err(pen.refusal(Reason::OutOfPlace, At::Operator)),
             },
-            _ => Err(out.refusal(
-                Fault {
-                    reason: Reason::OutOfPlace,
-                    at: At::Operator,
-                },
-                place,
-            )),
+            _ => Err(pen.refusal(Reason::OutOfPlace, At::Operator)),
         }
     }
 
     // The operator is begun, or given at once if no byte lengthens it.
-    pub fn begin_or_give<W: Sink>(
-        &mut self,
-        o: Operator,
-        place: u16,
-        out: &mut W,
-    ) -> Result<(), Refusal>
-        ensures { result_of result (held (state_of self.new) (W.Sink.sheet out.new)) ≡ lays W.Sink.written W.Sink.placed place (begun_or_given o (state_of self.old)) (W.Sink.sheet out.old) }
+    pub fn begin_or_give<W: Sink>(&mut self, o: Operator, pen: &mut Pen<W>) -> Result<(), Refusal>
+        ensures { Lays W.Sink (begun_or_given o (state_of self.old)) pen.old result self.new pen.new }
     {
         if o.may_lengthen() {
             self.begun = Begun::Operator(o);
             Ok(())
         } else {
-            self.give(o, place, out)
+            self.give(o, pen)
         }
     }
 
@@ -268,13 +188,12 @@ impl State {
         &mut self,
         redirected: bool,
         o: Operator,
-        place: u16,
-        out: &mut W,
+        pen: &mut Pen<W>,
     ) -> Result<(), Refusal>
-        ensures { result_of result (held (state_of self.new) (W.Sink.sheet out.new)) ≡ lays W.Sink.written W.Sink.placed place (begin redirected o (state_of self.old)) (W.Sink.sheet out.old) }
+        ensures { Lays W.Sink (begin redirected o (state_of self.old)) pen.old result self.new pen.new }
     {
-        self.word_ends(redirected, place, out)?;
-        out.put(Act::OperatorHere, place)?;
-        self.begin_or_give(o, place, out)
+        self.word_ends(redirected, pen)?;
+        pen.put(Act::OperatorHere)?;
+        self.begin_or_give(o, pen)
     }
 }

@@ -1,14 +1,14 @@
 // Reading any source onto any sink.
-ghost use Rattle.std.specs.Prelude.{◌≡◌, ◌<◌, true, false, Ok};
-ghost use Rattle.source.specs.Fronts.{coming_of};
+ghost use Rattle.std.specs.Prelude.{◌≡◌, true, false, Ok};
 ghost use Rattle.source.specs.Symbols.{first};
 ghost use Rattle.reading.specs.Laid.{held};
 ghost use Rattle.reader.specs.Held.{result_of};
 ghost use Rattle.reader.specs.Holding.{control_of};
-ghost use Rattle.reader.specs.Onto.{candidate_is, sheets, sign_move};
-ghost use Rattle.reader.specs.Turns.{candidate_next, goes_on, goes_replaced, own_from, place_next, reads_from, still_from};
+ghost use Rattle.reader.specs.Onto.{candidate_is};
+ghost use Rattle.reader.specs.Pens.{page_of, sign_on};
+ghost use Rattle.reader.specs.Turns.{IsFewer, Turns, candidate_next, goes_on, goes_replaced, own_rest_of, place_next, rest_of};
 
-use crate::sink::Sink;
+use crate::sink::{Pen, Sink};
 use crate::state::Reader;
 use basics::refusal::Refusal;
 use commands::stage::Stage;
@@ -41,17 +41,17 @@ impl Reader {
     }
 
     // The symbol does its own work.
-    fn step<W: Sink>(&mut self, sign: Sign, place: u16, out: &mut W) -> Result<(), Refusal>
-        ensures { result_of result (held (control_of self.new) (W.Sink.sheet out.new))
-            ≡ sign_move W.Sink.written W.Sink.placed W.Sink.filled sign place (control_of self.old) (W.Sink.sheet out.old) }
+    fn step<W: Sink>(&mut self, sign: Sign, pen: &mut Pen<W>) -> Result<(), Refusal>
+        ensures { result_of result (held (control_of self.new) (page_of W.Sink.sheet pen.new))
+            ≡ sign_on W.Sink.writes sign (control_of self.old) (page_of W.Sink.sheet pen.old) }
     {
         match sign {
-            Sign::Byte(b) => self.byte(b, place, out),
+            Sign::Byte(b) => self.byte(b, pen),
             Sign::Hole(digit) => {
-                self.hole(place, out)?;
-                out.put_hole(digit)
+                self.hole(pen)?;
+                pen.hole(digit)
             }
-            Sign::AliasEnd => self.alias_end(place, out),
+            Sign::AliasEnd => self.alias_end(pen),
         }
     }
 
@@ -62,20 +62,19 @@ impl Reader {
         source: &mut AliasSource<S>,
         out: &mut W,
     ) -> Result<bool, Refusal>
-        requires { next ≡ first (coming_of S.Source.coming source.old) }
-        ensures goes { goes_on result
-            (reads_from (sheets W.Sink.written W.Sink.placed W.Sink.filled W.Sink.word) S.Source.coming S.Source.end source.new (control_of self.new) (W.Sink.sheet out.new))
-            (W.Sink.sheet out.new)
-            ≡ own_from (sheets W.Sink.written W.Sink.placed W.Sink.filled W.Sink.word) S.Source.coming S.Source.end source.old (control_of self.old) (W.Sink.sheet out.old) }
-        ensures falls { result ≡ Ok true → still_from S.Source.coming source.new < still_from S.Source.coming source.old }
+        requires { next ≡ first source.old.coming }
+        ensures goes { goes_on result (rest_of W.Sink source.new (control_of self.new) out.new) (W.Sink.sheet out.new)
+            ≡ own_rest_of W.Sink source.old (control_of self.old) out.old }
+        ensures falls { result ≡ Ok true → IsFewer source.old source.new }
     {
         match next {
             None => {
-                self.end(source.end_place(), out)?;
+                let place = source.end_place();
+                self.end(&mut Pen { out, place })?;
                 Ok(false)
             }
-            Some(s) => {
-                self.step(s.sign, s.place, out)?;
+            Some(Symbol { sign, place }) => {
+                self.step(sign, &mut Pen { out, place })?;
                 source.take();
                 Ok(true)
             }
@@ -99,13 +98,12 @@ impl Reader {
         source: &mut AliasSource<S>,
         out: &mut W,
     ) -> Result<bool, Refusal>
-        requires next_value { next ≡ first (coming_of S.Source.coming source.old) }
+        requires next_value { next ≡ first source.old.coming }
         requires self_value { candidate_next next (control_of self.old) ≡ true }
-        ensures goes { goes_replaced result (reads_from (sheets W.Sink.written W.Sink.placed W.Sink.filled W.Sink.word) S.Source.coming S.Source.end source.new (control_of self.new) (W.Sink.sheet out.new)) (own_from (sheets W.Sink.written W.Sink.placed W.Sink.filled W.Sink.word) S.Source.coming S.Source.end source.new (control_of self.new) (W.Sink.sheet out.new))
-            ≡ reads_from (sheets W.Sink.written W.Sink.placed W.Sink.filled W.Sink.word) S.Source.coming S.Source.end source.old (control_of self.old) (W.Sink.sheet out.old) }
-        ensures falls { result ≡ Ok true → still_from S.Source.coming source.new < still_from S.Source.coming source.old }
-        ensures stays { result ≡ Ok false → coming_of S.Source.coming source.new ≡ coming_of S.Source.coming source.old }
-        ensures left { result ≡ Ok false → source.new.left ≡ source.old.left }
+        ensures goes { goes_replaced result (rest_of W.Sink source.new (control_of self.new) out.new) (own_rest_of W.Sink source.new (control_of self.new) out.new)
+            ≡ rest_of W.Sink source.old (control_of self.old) out.old }
+        ensures falls { result ≡ Ok true → IsFewer source.old source.new }
+        ensures stays { result ≡ Ok false → source.new ≡ source.old }
     {
         let place = place_before(next, source.end_place());
         let word_place = out.word_place();
@@ -123,8 +121,7 @@ impl Reader {
         source: &mut AliasSource<S>,
         out: &mut W,
     ) -> Result<bool, Refusal>
-        ensures goes { goes_on result (reads_from (sheets W.Sink.written W.Sink.placed W.Sink.filled W.Sink.word) S.Source.coming S.Source.end source.new (control_of self.new) (W.Sink.sheet out.new)) (W.Sink.sheet out.new) ≡ reads_from (sheets W.Sink.written W.Sink.placed W.Sink.filled W.Sink.word) S.Source.coming S.Source.end source.old (control_of self.old) (W.Sink.sheet out.old) }
-        ensures falls { result ≡ Ok true → still_from S.Source.coming source.new < still_from S.Source.coming source.old }
+        ensures { Turns W.Sink source.old (control_of self.old) out.old result source.new (control_of self.new) out.new }
     {
         let next = source.look();
         if !self.may_be_replaced_before(next) {
@@ -142,8 +139,7 @@ impl Reader {
         source: &mut AliasSource<S>,
         out: &mut W,
     ) -> Result<bool, Refusal>
-        ensures goes { goes_on result (reads_from (sheets W.Sink.written W.Sink.placed W.Sink.filled W.Sink.word) S.Source.coming S.Source.end source.new (control_of self.new) (W.Sink.sheet out.new)) (W.Sink.sheet out.new) ≡ reads_from (sheets W.Sink.written W.Sink.placed W.Sink.filled W.Sink.word) S.Source.coming S.Source.end source.old (control_of self.old) (W.Sink.sheet out.old) }
-        ensures falls { result ≡ Ok true → still_from S.Source.coming source.new < still_from S.Source.coming source.old }
+        ensures { Turns W.Sink source.old (control_of self.old) out.old result source.new (control_of self.new) out.new }
     {
         if self.escape {
             return self.turn(source, out);
@@ -155,12 +151,13 @@ impl Reader {
     }
 
     // Reads all that the source gives, and writes it on the sink.
+    // Stays: source and sink go side by side: each turn lends the sink to a pen while the source goes on, and the caller keeps both.
     pub fn read<S: Source, W: Sink>(
         &mut self,
         source: &mut AliasSource<S>,
         out: &mut W,
     ) -> Result<(), Refusal>
-        ensures { result_of result (W.Sink.sheet out.new) ≡ reads_from (sheets W.Sink.written W.Sink.placed W.Sink.filled W.Sink.word) S.Source.coming S.Source.end source.old (control_of self.old) (W.Sink.sheet out.old) }
+        ensures { result_of result (W.Sink.sheet out.new) ≡ rest_of W.Sink source.old (control_of self.old) out.old }
     {
         let mut more = true;
         while more {
@@ -174,8 +171,5 @@ impl Reader {
 fn place_before(next: Option<Symbol>, end: u16) -> u16
     ensures { result ≡ place_next end next }
 {
-    match next {
-        None => end,
-        Some(s) => s.place,
-    }
+    next.map_or(end, |s| s.place)
 }

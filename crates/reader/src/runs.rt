@@ -1,26 +1,12 @@
 // Runs of letters. Where the reader stands is asked once for a run of them, so that each letter then costs little.
-ghost use Rattle.std.specs.Prelude.{◌≡◌, ◌<◌, ◌≤◌, true, Some, Ok};
-ghost use Rattle.source.specs.declared.symbol.Sign.TheVariants.{Byte};
-ghost use Rattle.source.specs.Fronts.{coming_of};
-ghost use Rattle.source.specs.Symbols.{first, symbol};
-ghost use Rattle.tokens.specs.Bytes.{class_of};
-ghost use Rattle.tokens.specs.declared.letter.Mark.TheVariants as mark;
-ghost use Rattle.tokens.specs.Letters.{marked};
-ghost use Rattle.commands.specs.declared.line.Line.TheVariants as line;
-ghost use Rattle.reading.specs.declared.act.Act.TheVariants as act;
-ghost use Rattle.reading.specs.declared.mode.Mode.TheVariants as mode;
-ghost use Rattle.reading.specs.Laid.{held};
-ghost use Rattle.reading.specs.States.{calm, in_mode, set_word};
-ghost use Rattle.reading.specs.Steps.{does, done};
-ghost use Rattle.reading.specs.Words.{bare, quoted};
-ghost use Rattle.reader.specs.Held.{result_of, lays};
+ghost use Rattle.std.specs.Prelude.{◌≡◌, OnOk};
+ghost use Rattle.reading.specs.States.{calm};
 ghost use Rattle.reader.specs.Holding.{state_of};
-ghost use Rattle.reader.specs.Onto.{sheets};
-ghost use Rattle.reader.specs.Turns.{reads_from, still_from};
-ghost use Rattle.reader.specs.Runs.{is_backslash, is_before_name, is_letter, is_own_work, is_plain, is_quoted_letter, in_quotes, may_be_name, passed, run_of};
-ghost use Rattle.reader.specs.declared.runs.Run.TheVariants as run;
+ghost use Rattle.reader.specs.Pens.{Lays};
+ghost use Rattle.reader.specs.Turns.{Passes};
+ghost use Rattle.reader.specs.Runs.{is_backslash, is_before_name, is_letter, is_own_work, is_plain, may_be_name, run_of, has_letter, letter_of, has_work, work_of};
 
-use crate::sink::Sink;
+use crate::sink::{Pen, Sink};
 use crate::state::State;
 use basics::refusal::Refusal;
 use commands::line::Line;
@@ -33,64 +19,36 @@ use source::symbol::Sign;
 use tokens::begun::Begun;
 use tokens::bytes::is_quotable;
 use tokens::class::{Class, class_of};
-use tokens::letter::{Letter, Mark};
+use tokens::letter::Mark;
 use tokens::top::Top;
 
 // Where letters come one after another.
-#[derive(Clone, Copy)]
+#[derive(Clone, Copy, Debug, PartialEq, Eq)]
 pub enum Run {
     Nowhere,
     // in command text, where nothing is begun
     Bare,
-    // in single quotes, or in double quotes where nothing is begun
-    Quoted(bool),
+    // in single quotes
+    Single,
+    // in double quotes, where nothing is begun
+    Double,
     // in a line of that body which is known not to be its delimiter
     Body(usize),
 }
 
-// In command text a byte of the class is a bare letter, wherever a word may stand.
-fn is_letter(c: Class) -> bool
-    ensures { result ≡ is_letter c }
-{
-    match c {
-        Class::Minus | Class::Other => true,
-        _ => false,
+impl Run {
+    // The byte is a letter of the run.
+    fn has_letter(self, b: u8) -> bool
+        ensures { result ≡ has_letter self b }
+    {
+        match self {
+            Run::Nowhere => false,
+            Run::Bare => matches!(class_of(b), Class::Minus | Class::Other),
+            Run::Single => b != b'\'',
+            Run::Double => !is_quotable(b),
+            Run::Body(_) => b != b'\n',
+        }
     }
-}
-
-fn is_backslash(c: Class) -> bool
-    ensures { result ≡ is_backslash c }
-{
-    match c {
-        Class::Backslash => true,
-        _ => false,
-    }
-}
-
-// The command's name has not come.
-fn is_before_name(g: Stage) -> bool
-    ensures { result ≡ is_before_name g }
-{
-    match g {
-        Stage::Args | Stage::Done => false,
-        _ => true,
-    }
-}
-
-fn is_plain(m: Mode) -> bool
-    ensures { result ≡ is_plain m }
-{
-    match m {
-        Mode::Plain(_) => true,
-        _ => false,
-    }
-}
-
-// The byte is a letter in double quotes, or else in single quotes.
-fn is_quoted_letter(double: bool, b: u8) -> bool
-    ensures { result ≡ is_quoted_letter double b }
-{
-    if double { !is_quotable(b) } else { b != b'\'' }
 }
 
 impl State {
@@ -102,88 +60,37 @@ impl State {
             (Mode::Comment, _, _) => Run::Nowhere,
             (Mode::Body(n, Line::Other), _, _) => Run::Body(n),
             (Mode::Body(_, _), _, _) => Run::Nowhere,
-            (_, Top::Single, _) => Run::Quoted(false),
-            (_, Top::Double, Begun::Nothing) => Run::Quoted(true),
+            (_, Top::Single, _) => Run::Single,
+            (_, Top::Double, Begun::Nothing) => Run::Double,
             (_, Top::Command, Begun::Nothing) => Run::Bare,
             _ => Run::Nowhere,
         }
     }
 
-    // A bare letter at the symbol that is read.
-    fn bare_here<W: Sink>(&mut self, b: u8, place: u16, out: &mut W) -> Result<(), Refusal>
-        ensures lays { result_of result (held (state_of self.new) (W.Sink.sheet out.new)) ≡ lays W.Sink.written W.Sink.placed place (bare b act.WordHere (state_of self.old)) (W.Sink.sheet out.old) }
-        ensures run { run_of (state_of self.new) ≡ run_of (state_of self.old) }
+    // A letter of the run, which goes on.
+    fn letter<W: Sink>(&mut self, run: Run, b: u8, pen: &mut Pen<W>) -> Result<(), Refusal>
+        requires { run_of (state_of self.old) ≡ run }
+        ensures lays { Lays W.Sink (letter_of run b (state_of self.old)) pen.old result self.new pen.new }
+        ensures run { OnOk result (run_of (state_of self.new) ≡ run) }
     {
-        if let Mode::Gap = self.word.mode {
-            out.put(Act::WordHere, place)?;
+        match run {
+            Run::Nowhere => Ok(()),
+            Run::Bare => self.bare(b, Act::WordHere, pen),
+            Run::Single | Run::Double => self.quoted(b, Act::WordHere, pen),
+            Run::Body(n) => {
+                pen.letter(Mark::Body, b)?;
+                self.word.set(Mode::Body(n, Line::Other));
+                Ok(())
+            }
         }
-        out.put_letter(
-            Letter {
-                mark: Mark::Bare,
-                byte: b,
-            },
-            place,
-        )?;
-        self.word.lengthen(b);
-        self.note(b);
-        Ok(())
-    }
-
-    // A quoted letter at the symbol that is read.
-    fn quoted_here<W: Sink>(
-        &mut self,
-        double: bool,
-        b: u8,
-        place: u16,
-        out: &mut W,
-    ) -> Result<(), Refusal>
-        requires { run_of (state_of self.old) ≡ run.Quoted double }
-        ensures lays { result_of result (held (state_of self.new) (W.Sink.sheet out.new)) ≡ lays W.Sink.written W.Sink.placed place (quoted b act.WordHere (state_of self.old)) (W.Sink.sheet out.old) }
-        ensures run { run_of (state_of self.new) ≡ run.Quoted double }
-    {
-        if let Mode::Gap = self.word.mode {
-            out.put(Act::WordHere, place)?;
-        }
-        out.put_letter(
-            Letter {
-                mark: Mark::Quoted,
-                byte: b,
-            },
-            place,
-        )?;
-        self.enter();
-        self.note(b);
-        Ok(())
-    }
-
-    // A letter of a body.
-    fn body_here<W: Sink>(
-        &mut self,
-        n: usize,
-        b: u8,
-        place: u16,
-        out: &mut W,
-    ) -> Result<(), Refusal>
-        requires { run_of (state_of self.old) ≡ run.Body n }
-        ensures lays { result_of result (held (state_of self.new) (W.Sink.sheet out.new)) ≡ lays W.Sink.written W.Sink.placed place (does (act.Letter (marked mark.Body b)) (done (set_word (in_mode (mode.Body n line.Other)) (state_of self.old)))) (W.Sink.sheet out.old) }
-        ensures run { run_of (state_of self.new) ≡ run.Body n }
-    {
-        out.put_letter(
-            Letter {
-                mark: Mark::Body,
-                byte: b,
-            },
-            place,
-        )?;
-        self.word.set(Mode::Body(n, Line::Other));
-        Ok(())
     }
 
     // The word that is read is plain, and would be a command's name.
     fn may_be_name(&self) -> bool
         ensures { result ≡ may_be_name (state_of self.now) }
     {
-        is_before_name(self.command.stage) && is_plain(self.word.mode)
+        !matches!(self.command.stage, Stage::Args | Stage::Done)
+            && matches!(self.word.mode, Mode::Plain(_))
     }
 
     // A byte of the class behind bare letters does its own work and nothing else: it is no backslash, and ends no word
@@ -191,142 +98,61 @@ impl State {
     fn is_own_work(&self, c: Class) -> bool
         ensures { result ≡ is_own_work c (state_of self.now) }
     {
-        !is_backslash(c) && !(c.ends_word() && self.may_be_name())
+        !matches!(c, Class::Backslash) && !(c.ends_word() && self.may_be_name())
     }
 
-    // The byte behind bare letters, which comes next; says whether it was taken.
-    fn command_byte<S: Source, W: Sink>(
-        &mut self,
-        b: u8,
-        place: u16,
-        source: &mut AliasSource<S>,
-        out: &mut W,
-    ) -> Result<bool, Refusal>
-        requires self_value { run_of (state_of self.old) ≡ run.Bare }
-        requires place_value { Some (symbol (Byte b) place) ≡ first (coming_of S.Source.coming source.old) }
-        ensures goes { passed result (reads_from (sheets W.Sink.written W.Sink.placed W.Sink.filled W.Sink.word) S.Source.coming S.Source.end source.new (calm (state_of self.new)) (W.Sink.sheet out.new)) ≡ reads_from (sheets W.Sink.written W.Sink.placed W.Sink.filled W.Sink.word) S.Source.coming S.Source.end source.old (calm (state_of self.old)) (W.Sink.sheet out.old) }
-        ensures falls { still_from S.Source.coming source.new ≤ still_from S.Source.coming source.old }
-        ensures fewer { result ≡ Ok true → still_from S.Source.coming source.new < still_from S.Source.coming source.old }
+    // A byte that is no letter of the run does its own work and nothing else.
+    fn has_work(&self, run: Run, b: u8) -> bool
+        ensures { result ≡ has_work run b (state_of self.now) }
     {
-        let class = class_of(b);
-        if !self.is_own_work(class) {
-            return Ok(false);
-        }
-        self.in_command(class, b, place, out)?;
-        source.take();
-        Ok(true)
-    }
-
-    // The byte behind quoted letters, which comes next; says whether it was taken.
-    fn quote_byte<S: Source, W: Sink>(
-        &mut self,
-        double: bool,
-        b: u8,
-        place: u16,
-        source: &mut AliasSource<S>,
-        out: &mut W,
-    ) -> Result<bool, Refusal>
-        requires self_value { run_of (state_of self.old) ≡ run.Quoted double }
-        requires place_value { Some (symbol (Byte b) place) ≡ first (coming_of S.Source.coming source.old) }
-        ensures goes { passed result (reads_from (sheets W.Sink.written W.Sink.placed W.Sink.filled W.Sink.word) S.Source.coming S.Source.end source.new (calm (state_of self.new)) (W.Sink.sheet out.new)) ≡ reads_from (sheets W.Sink.written W.Sink.placed W.Sink.filled W.Sink.word) S.Source.coming S.Source.end source.old (calm (state_of self.old)) (W.Sink.sheet out.old) }
-        ensures falls { still_from S.Source.coming source.new ≤ still_from S.Source.coming source.old }
-        ensures fewer { result ≡ Ok true → still_from S.Source.coming source.new < still_from S.Source.coming source.old }
-    {
-        if b == b'\\' {
-            return Ok(false);
-        }
-        self.in_quotes(double, b, place, out)?;
-        source.take();
-        Ok(true)
-    }
-
-    // What a byte does in double quotes, or else in single quotes.
-    fn in_quotes<W: Sink>(
-        &mut self,
-        double: bool,
-        b: u8,
-        place: u16,
-        out: &mut W,
-    ) -> Result<(), Refusal>
-        ensures { result_of result (held (state_of self.new) (W.Sink.sheet out.new)) ≡ lays W.Sink.written W.Sink.placed place (in_quotes double b (state_of self.old)) (W.Sink.sheet out.old) }
-    {
-        if double {
-            self.in_double(b, place, out)
-        } else {
-            self.in_single(b, place, out)
+        match run {
+            Run::Nowhere | Run::Body(_) => false,
+            Run::Bare => self.is_own_work(class_of(b)),
+            Run::Single | Run::Double => b != b'\\',
         }
     }
 
-    // The bare letters that come next, and the byte behind them.
-    fn pass_bare<S: Source, W: Sink>(
+    fn work_behind<W: Sink>(&mut self, run: Run, b: u8, pen: &mut Pen<W>) -> Result<(), Refusal>
+        ensures { Lays W.Sink (work_of run b (state_of self.old)) pen.old result self.new pen.new }
+    {
+        match run {
+            Run::Nowhere | Run::Body(_) => Ok(()),
+            Run::Bare => self.in_command(class_of(b), b, pen),
+            Run::Single => self.in_single(b, pen),
+            Run::Double => self.in_double(b, pen),
+        }
+    }
+
+    // The letters of the run that come next, and maybe the byte behind them; says whether that was taken.
+    #[inline(always)]
+    fn pass<S: Source, W: Sink>(
         &mut self,
+        run: Run,
         source: &mut AliasSource<S>,
         out: &mut W,
     ) -> Result<bool, Refusal>
-        requires { run_of (state_of self.old) ≡ run.Bare }
-        ensures goes { passed result (reads_from (sheets W.Sink.written W.Sink.placed W.Sink.filled W.Sink.word) S.Source.coming S.Source.end source.new (calm (state_of self.new)) (W.Sink.sheet out.new)) ≡ reads_from (sheets W.Sink.written W.Sink.placed W.Sink.filled W.Sink.word) S.Source.coming S.Source.end source.old (calm (state_of self.old)) (W.Sink.sheet out.old) }
-        ensures falls { still_from S.Source.coming source.new ≤ still_from S.Source.coming source.old }
-        ensures fewer { result ≡ Ok true → still_from S.Source.coming source.new < still_from S.Source.coming source.old }
+        requires { run_of (state_of self.old) ≡ run }
+        ensures { Passes W.Sink source.old (calm (state_of self.old)) out.old result source.new (calm (state_of self.new)) out.new }
     {
         while let Some(s) = source.look() {
             let Sign::Byte(b) = s.sign else {
                 return Ok(false);
             };
-            if !is_letter(class_of(b)) {
-                return self.command_byte(b, s.place, source, out);
-            }
-            self.bare_here(b, s.place, out)?;
-            source.take();
-        }
-        Ok(false)
-    }
-
-    // The quoted letters that come next, and the byte behind them.
-    fn pass_quoted<S: Source, W: Sink>(
-        &mut self,
-        double: bool,
-        source: &mut AliasSource<S>,
-        out: &mut W,
-    ) -> Result<bool, Refusal>
-        requires { run_of (state_of self.old) ≡ run.Quoted double }
-        ensures goes { passed result (reads_from (sheets W.Sink.written W.Sink.placed W.Sink.filled W.Sink.word) S.Source.coming S.Source.end source.new (calm (state_of self.new)) (W.Sink.sheet out.new)) ≡ reads_from (sheets W.Sink.written W.Sink.placed W.Sink.filled W.Sink.word) S.Source.coming S.Source.end source.old (calm (state_of self.old)) (W.Sink.sheet out.old) }
-        ensures falls { still_from S.Source.coming source.new ≤ still_from S.Source.coming source.old }
-        ensures fewer { result ≡ Ok true → still_from S.Source.coming source.new < still_from S.Source.coming source.old }
-    {
-        while let Some(s) = source.look() {
-            let Sign::Byte(b) = s.sign else {
-                return Ok(false);
+            let mut pen = Pen {
+                out: &mut *out,
+                place: s.place,
             };
-            if !is_quoted_letter(double, b) {
-                return self.quote_byte(double, b, s.place, source, out);
+            if run.has_letter(b) {
+                self.letter(run, b, &mut pen)?;
+                source.take();
+                continue;
             }
-            self.quoted_here(double, b, s.place, out)?;
-            source.take();
-        }
-        Ok(false)
-    }
-
-    // The letters of a body's line that come next.
-    fn pass_line<S: Source, W: Sink>(
-        &mut self,
-        n: usize,
-        source: &mut AliasSource<S>,
-        out: &mut W,
-    ) -> Result<bool, Refusal>
-        requires { run_of (state_of self.old) ≡ run.Body n }
-        ensures goes { passed result (reads_from (sheets W.Sink.written W.Sink.placed W.Sink.filled W.Sink.word) S.Source.coming S.Source.end source.new (calm (state_of self.new)) (W.Sink.sheet out.new)) ≡ reads_from (sheets W.Sink.written W.Sink.placed W.Sink.filled W.Sink.word) S.Source.coming S.Source.end source.old (calm (state_of self.old)) (W.Sink.sheet out.old) }
-        ensures falls { still_from S.Source.coming source.new ≤ still_from S.Source.coming source.old }
-        ensures fewer { result ≡ Ok true → still_from S.Source.coming source.new < still_from S.Source.coming source.old }
-    {
-        while let Some(s) = source.look() {
-            let Sign::Byte(b) = s.sign else {
-                return Ok(false);
-            };
-            if b == b'\n' {
+            if !self.has_work(run, b) {
                 return Ok(false);
             }
-            self.body_here(n, b, s.place, out)?;
+            self.work_behind(run, b, &mut pen)?;
             source.take();
+            return Ok(true);
         }
         Ok(false)
     }
@@ -337,15 +163,13 @@ impl State {
         source: &mut AliasSource<S>,
         out: &mut W,
     ) -> Result<bool, Refusal>
-        ensures goes { passed result (reads_from (sheets W.Sink.written W.Sink.placed W.Sink.filled W.Sink.word) S.Source.coming S.Source.end source.new (calm (state_of self.new)) (W.Sink.sheet out.new)) ≡ reads_from (sheets W.Sink.written W.Sink.placed W.Sink.filled W.Sink.word) S.Source.coming S.Source.end source.old (calm (state_of self.old)) (W.Sink.sheet out.old) }
-        ensures falls { still_from S.Source.coming source.new ≤ still_from S.Source.coming source.old }
-        ensures fewer { result ≡ Ok true → still_from S.Source.coming source.new < still_from S.Source.coming source.old }
+        ensures { Passes W.Sink source.old (calm (state_of self.old)) out.old result source.new (calm (state_of self.new)) out.new }
     {
         match self.run() {
             Run::Nowhere => Ok(false),
-            Run::Bare => self.pass_bare(source, out),
-            Run::Quoted(double) => self.pass_quoted(double, source, out),
-            Run::Body(n) => self.pass_line(n, source, out),
+            // most letters are bare, and this call is made for them alone
+            Run::Bare => self.pass(Run::Bare, source, out),
+            run => self.pass(run, source, out),
         }
     }
 }

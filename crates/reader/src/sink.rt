@@ -1,46 +1,88 @@
 // A sink takes what the reader writes: letters, items and notes of places. What it holds, and what an act makes of that, each sink says for itself.
 ghost use Rattle.std.specs.Prelude.{◌≡◌, ℕ, Result};
-ghost use Rattle.basics.specs.declared.refusal.Refusal.{Refusal};
-ghost use Rattle.reading.specs.declared.act.Act.{Act};
 ghost use Rattle.reading.specs.declared.act.Act.TheVariants as act;
-ghost use Rattle.reading.specs.declared.act.Fault.{Fault};
+ghost use Rattle.tokens.specs.Letters.{marked};
+ghost use Rattle.reading.specs.Steps.{fault};
 ghost use Rattle.reader.specs.Held.{result_of};
+ghost use Rattle.reader.specs.Sheets.{Sheets};
 
-use basics::refusal::Refusal;
-use reading::act::{Act, Fault};
-use tokens::letter::Letter;
+use basics::refusal::{Reason, Refusal};
+use reading::act::{Act, At, Fault};
+use tokens::letter::{Letter, Mark};
 
 pub trait Sink {
     // what it holds
     ghost Sheet: { Type 0 };
 
     ghost sheet: { Self → Sheet };
-    // what it holds after an act at a place, or that there is no room for it
-    ghost written: { Act → ℕ → Sheet → Result Sheet Refusal };
-    // the refusal that a fault at a place comes to
-    ghost placed: { Fault → ℕ → Sheet → Refusal };
-
-    // what it holds after the letter of a hole, by its digit
-    ghost filled: { ℕ → Sheet → Result Sheet Refusal };
-    // the place of the first byte of the word that is read
-    ghost word: { Sheet → ℕ };
+    // what the calls below make of it
+    ghost writes: { Sheets Sheet };
 
     fn put(&mut self, act: Act, place: u16) -> Result<(), Refusal>
-        ensures { result_of result (sheet self.new) ≡ written act place (sheet self.old) };
+        ensures { result_of result (sheet self.new) ≡ writes.written act place (sheet self.old) };
 
     // The same for a letter: the act that is most frequent, so that a sink may have a shorter way for it.
     fn put_letter(&mut self, letter: Letter, place: u16) -> Result<(), Refusal>
-        ensures { result_of result (sheet self.new) ≡ written (act.Letter letter) place (sheet self.old) }
+        ensures { result_of result (sheet self.new) ≡ writes.written (act.Letter letter) place (sheet self.old) }
     {
         self.put(Act::Letter(letter), place)
     }
 
     fn refusal(&self, fault: Fault, place: u16) -> Refusal
-        ensures { result ≡ placed fault place (sheet self.now) };
+        ensures { result ≡ writes.placed fault place (sheet self.now) };
 
     fn put_hole(&mut self, digit: u8) -> Result<(), Refusal>
-        ensures { result_of result (sheet self.new) ≡ filled digit (sheet self.old) };
+        ensures { result_of result (sheet self.new) ≡ writes.filled digit (sheet self.old) };
 
     fn word_place(&self) -> u16
-        ensures { result ≡ word (sheet self.now) };
+        ensures { result ≡ writes.word (sheet self.now) };
+}
+
+// A sink, and the place at which is written.
+#[derive(Drop)]
+pub struct Pen<'w, W> {
+    pub out: &'w mut W,
+    pub place: u16,
+}
+
+impl<W: Sink> Pen<'_, W> {
+    ghost use Rattle.reading.specs.States.{State};
+    ghost use Rattle.reading.specs.Steps.{writes, done};
+    ghost use Rattle.reading.specs.Laid.{held};
+    ghost use Rattle.reader.specs.Pens.{page_of, put_on, fill_on, refused_on, step_on};
+
+    pub fn put(&mut self, act: Act) -> Result<(), Refusal>
+        ensures { result_of result (page_of W.Sink.sheet self.new) ≡ put_on W.Sink.writes act (page_of W.Sink.sheet self.old) }
+    {
+        self.out.put(act, self.place)
+    }
+
+    pub fn letter(&mut self, mark: Mark, byte: u8) -> Result<(), Refusal>
+        ensures { result_of result (page_of W.Sink.sheet self.new) ≡ put_on W.Sink.writes (act.Letter (marked mark byte)) (page_of W.Sink.sheet self.old) }
+    {
+        self.out.put_letter(Letter { mark, byte }, self.place)
+    }
+
+    // Letters of one mark, one after another.
+    pub fn letters(&mut self, mark: Mark, bytes: &[u8]) -> Result<(), Refusal>
+        ensures { (i : State) → result_of result (held i (page_of W.Sink.sheet self.new)) ≡ step_on W.Sink.writes (writes mark bytes.now (done i)) (page_of W.Sink.sheet self.old) }
+    {
+        for &byte in bytes {
+            self.letter(mark, byte)?;
+        }
+        Ok(())
+    }
+
+    // The letter of a hole.
+    pub fn hole(&mut self, digit: u8) -> Result<(), Refusal>
+        ensures { result_of result (page_of W.Sink.sheet self.new) ≡ fill_on W.Sink.writes digit (page_of W.Sink.sheet self.old) }
+    {
+        self.out.put_hole(digit)
+    }
+
+    pub fn refusal(&self, reason: Reason, at: At) -> Refusal
+        ensures { result ≡ refused_on W.Sink.writes (fault reason at) (page_of W.Sink.sheet self.now) }
+    {
+        self.out.refusal(Fault { reason, at }, self.place)
+    }
 }

@@ -1,13 +1,13 @@
 // A word begins, goes on and ends.
 ghost use Rattle.std.specs.Prelude.{◌≡◌, ◌&&◌, []};
 ghost use Rattle.commands.specs.Roles.{use_of};
-ghost use Rattle.reading.specs.States.{set_command, set_word, gap, assigned, depth};
+ghost use Rattle.commands.specs.declared.awaited.Awaited.TheVariants as awaited;
+ghost use Rattle.reading.specs.States.{command, set_command, set_word, gap, assigned, depth};
 ghost use Rattle.reading.specs.Words.{longer, noted, bare, quoted, enter, given_as, bad_delimiter, delimited, by_use, reserved, use_here, used, word_ends};
-ghost use Rattle.reading.specs.Laid.{held};
-ghost use Rattle.reader.specs.Held.{result_of, lays};
+ghost use Rattle.reader.specs.Pens.{Lays};
 ghost use Rattle.reader.specs.Holding.{word_of, command_of, documents_of, state_of};
 
-use crate::sink::Sink;
+use crate::sink::{Pen, Sink};
 use crate::state::{Command, Documents, State, Word};
 use basics::refusal::{Reason, Refusal};
 use commands::awaited::Awaited;
@@ -16,10 +16,10 @@ use commands::queue::Waiting;
 use commands::reserved::is_reserved;
 use commands::role::{Role, Use, use_of};
 use commands::stage::Stage;
-use reading::act::{Act, At, Fault};
+use reading::act::{Act, At};
 use reading::mode::Mode;
 use tokens::begun::Begun;
-use tokens::letter::{Letter, Mark};
+use tokens::letter::Mark;
 use tokens::opening::Opening;
 
 // The word is an assignment if it is before the command's name.
@@ -30,6 +30,18 @@ pub fn is_assigned(m: Mode) -> bool
         Mode::Plain(o) => o.is_assign(),
         Mode::Mixed(y) => y,
         _ => false,
+    }
+}
+
+impl Command {
+    // At a stage, where no redirection awaits its word.
+    pub(crate) fn at(stage: Stage) -> Self
+        ensures { command_of result ≡ command stage awaited.Nothing }
+    {
+        Command {
+            stage,
+            awaited: Awaited::Nothing,
+        }
     }
 }
 
@@ -64,10 +76,7 @@ impl Word {
     pub fn is_reserved(&self) -> bool
         ensures { result ≡ reserved (word_of self.now) }
     {
-        match self.mode {
-            Mode::Plain(_) => is_reserved(self.kept.text()),
-            _ => false,
-        }
+        matches!(self.mode, Mode::Plain(_)) && is_reserved(self.kept.text())
     }
 }
 
@@ -76,9 +85,8 @@ impl State {
     pub fn note(&mut self, b: u8)
         ensures { state_of self.new ≡ noted b (state_of self.old) }
     {
-        match self.command.awaited {
-            Awaited::Delimiter(_) => self.documents.letters.push(b),
-            _ => {}
+        if let Awaited::Delimiter(_) = self.command.awaited {
+            self.documents.letters.push(b);
         }
     }
 
@@ -92,49 +100,25 @@ impl State {
     }
 
     // A bare letter; `from` says where a word begins with it.
-    pub fn bare<W: Sink>(
-        &mut self,
-        b: u8,
-        from: Act,
-        place: u16,
-        out: &mut W,
-    ) -> Result<(), Refusal>
-        ensures { result_of result (held (state_of self.new) (W.Sink.sheet out.new)) ≡ lays W.Sink.written W.Sink.placed place (bare b from (state_of self.old)) (W.Sink.sheet out.old) }
+    pub fn bare<W: Sink>(&mut self, b: u8, from: Act, pen: &mut Pen<W>) -> Result<(), Refusal>
+        ensures { Lays W.Sink (bare b from (state_of self.old)) pen.old result self.new pen.new }
     {
         if let Mode::Gap = self.word.mode {
-            out.put(from, place)?;
+            pen.put(from)?;
         }
-        out.put_letter(
-            Letter {
-                mark: Mark::Bare,
-                byte: b,
-            },
-            place,
-        )?;
+        pen.letter(Mark::Bare, b)?;
         self.word.lengthen(b);
         self.note(b);
         Ok(())
     }
 
-    pub fn quoted<W: Sink>(
-        &mut self,
-        b: u8,
-        from: Act,
-        place: u16,
-        out: &mut W,
-    ) -> Result<(), Refusal>
-        ensures { result_of result (held (state_of self.new) (W.Sink.sheet out.new)) ≡ lays W.Sink.written W.Sink.placed place (quoted b from (state_of self.old)) (W.Sink.sheet out.old) }
+    pub fn quoted<W: Sink>(&mut self, b: u8, from: Act, pen: &mut Pen<W>) -> Result<(), Refusal>
+        ensures { Lays W.Sink (quoted b from (state_of self.old)) pen.old result self.new pen.new }
     {
         if let Mode::Gap = self.word.mode {
-            out.put(from, place)?;
+            pen.put(from)?;
         }
-        out.put_letter(
-            Letter {
-                mark: Mark::Quoted,
-                byte: b,
-            },
-            place,
-        )?;
+        pen.letter(Mark::Quoted, b)?;
         self.enter();
         self.note(b);
         Ok(())
@@ -145,46 +129,28 @@ impl State {
         &mut self,
         role: Role,
         command: Command,
-        place: u16,
-        out: &mut W,
+        pen: &mut Pen<W>,
     ) -> Result<(), Refusal>
-        ensures { result_of result (held (state_of self.new) (W.Sink.sheet out.new)) ≡ lays W.Sink.written W.Sink.placed place (given_as role (command_of command) (state_of self.old)) (W.Sink.sheet out.old) }
+        ensures { Lays W.Sink (given_as role (command_of command) (state_of self.old)) pen.old result self.new pen.new }
     {
-        out.put(
-            Act::Item(Kind::Word(role), self.frames.depth(), At::Word),
-            place,
-        )?;
+        pen.put(Act::Item(Kind::Word(role), self.frames.depth(), At::Word))?;
         self.word.set(Mode::Gap);
         self.command = command;
         Ok(())
     }
 
     // The delimiter of a here-document, which waits for its body from now on.
-    fn delimited<W: Sink>(&mut self, dash: bool, place: u16, out: &mut W) -> Result<(), Refusal>
-        ensures { result_of result (held (state_of self.new) (W.Sink.sheet out.new)) ≡ lays W.Sink.written W.Sink.placed place (delimited dash (state_of self.old)) (W.Sink.sheet out.old) }
+    fn delimited<W: Sink>(&mut self, dash: bool, pen: &mut Pen<W>) -> Result<(), Refusal>
+        ensures { Lays W.Sink (delimited dash (state_of self.old)) pen.old result self.new pen.new }
     {
         if self.documents.is_bad_delimiter() {
-            return Err(out.refusal(
-                Fault {
-                    reason: Reason::HereDocument,
-                    at: At::First,
-                },
-                place,
-            ));
+            return Err(pen.refusal(Reason::HereDocument, At::First));
         }
         let _ = self.documents.waiting.push(Waiting {
             dash,
             delimiter: self.documents.letters,
         });
-        self.give_word(
-            Role::Delim,
-            Command {
-                stage: self.command.stage,
-                awaited: Awaited::Nothing,
-            },
-            place,
-            out,
-        )
+        self.give_word(Role::Delim, Command::at(self.command.stage), pen)
     }
 
     pub fn use_here(&self) -> Option<Use>
@@ -198,66 +164,34 @@ impl State {
     }
 
     // A word in command text, by whether it is an IO number: one may not stand where a redirection awaits its word.
-    fn use_word<W: Sink>(&mut self, number: bool, place: u16, out: &mut W) -> Result<(), Refusal>
-        ensures { result_of result (held (state_of self.new) (W.Sink.sheet out.new)) ≡ lays W.Sink.written W.Sink.placed place (used number (state_of self.old)) (W.Sink.sheet out.old) }
+    fn use_word<W: Sink>(&mut self, number: bool, pen: &mut Pen<W>) -> Result<(), Refusal>
+        ensures { Lays W.Sink (used number (state_of self.old)) pen.old result self.new pen.new }
     {
         match self.command.awaited {
             Awaited::Nothing => {
                 if number {
-                    return self.give_word(Role::Number, self.command, place, out);
+                    return self.give_word(Role::Number, self.command, pen);
                 }
                 if let Stage::Args = self.command.stage {
-                    return self.give_word(Role::Arg, self.command, place, out);
+                    return self.give_word(Role::Arg, self.command, pen);
                 }
                 match self.use_here() {
-                    Some(u) => self.give_word(
-                        u.role,
-                        Command {
-                            stage: u.stage,
-                            awaited: Awaited::Nothing,
-                        },
-                        place,
-                        out,
-                    ),
-                    None => Err(out.refusal(
-                        Fault {
-                            reason: Reason::OutOfPlace,
-                            at: At::First,
-                        },
-                        place,
-                    )),
+                    Some(u) => self.give_word(u.role, Command::at(u.stage), pen),
+                    None => Err(pen.refusal(Reason::OutOfPlace, At::First)),
                 }
             }
-            _ if number => Err(out.refusal(
-                Fault {
-                    reason: Reason::OutOfPlace,
-                    at: At::First,
-                },
-                place,
-            )),
+            _ if number => Err(pen.refusal(Reason::OutOfPlace, At::First)),
             Awaited::Target => {
-                self.give_word(
-                    Role::Target,
-                    Command {
-                        stage: self.command.stage,
-                        awaited: Awaited::Nothing,
-                    },
-                    place,
-                    out,
-                )
+                self.give_word(Role::Target, Command::at(self.command.stage), pen)
             }
-            Awaited::Delimiter(dash) => self.delimited(dash, place, out),
+            Awaited::Delimiter(dash) => self.delimited(dash, pen),
         }
     }
 
     // The word ends, if there is one; directly before `<` or `>` a plain word of digits is an IO number.
-    pub fn word_ends<W: Sink>(
-        &mut self,
-        redirected: bool,
-        place: u16,
-        out: &mut W,
-    ) -> Result<(), Refusal>
-        ensures { result_of result (held (state_of self.new) (W.Sink.sheet out.new)) ≡ lays W.Sink.written W.Sink.placed place (word_ends redirected (state_of self.old)) (W.Sink.sheet out.old) }
+    // Stays: a yes or no, as the definition takes it: whether one of these comes next.
+    pub fn word_ends<W: Sink>(&mut self, redirected: bool, pen: &mut Pen<W>) -> Result<(), Refusal>
+        ensures { Lays W.Sink (word_ends redirected (state_of self.old)) pen.old result self.new pen.new }
     {
         match self.word.mode {
             Mode::Gap | Mode::Body(_, _) => Ok(()),
@@ -265,8 +199,8 @@ impl State {
                 self.word.set(Mode::Gap);
                 Ok(())
             }
-            Mode::Plain(o) => self.use_word(redirected && o.is_number(), place, out),
-            Mode::Mixed(_) => self.use_word(false, place, out),
+            Mode::Plain(o) => self.use_word(redirected && o.is_number(), pen),
+            Mode::Mixed(_) => self.use_word(false, pen),
         }
     }
 }
