@@ -1,11 +1,11 @@
 -- Free slots after a list. Assumes nothing.
 use Rattle.std.proofs.Common.{◌≡◌, ℕ, ◌+◌, ◌-◌, ◌≤◌, Bool, true, false, ltb, List, ◌++◌, length, take, drop, replicate, Some, None, Ok, Err, Option, Result, sym, refl, ap, ◌∙◌, inl, inr, arith, length-drop}
 use borrow.Rule.Slice.PartMut.{put_mid}
+use Rattle.std.specs.Result.{ResultUnwrapsOrElse}
 use Rattle.std.proofs.lemmas.List.{append-nil, length-take, take_all, drop_all}
 use Rattle.std.proofs.lemmas.Bool.{cases_lt, lt-ltb}
-use Rattle.basics.specs.Checks.{answer, or_else, refuse_if, refuse_at}
-use Rattle.basics.specs.Searches.{first_zero}
-use Rattle.basics.specs.declared.refusal.Reason.TheVariants.{TooLong, ZeroByte}
+use Rattle.basics.specs.Checks.{answer, or_else, refuse_if}
+use Rattle.basics.specs.declared.refusal.Reason.TheVariants.{TooLong}
 use Rattle.basics.specs.declared.refusal.Refusal.{Refusal}
 use Rattle.reading.specs.Laid.{and}
 use Rattle.listing.specs.declared.record.Record.{Record}
@@ -64,6 +64,11 @@ module _ (nr nl : ℕ) (rs : List Record) (ls : List ℕ) (same-records : length
   pub within : (r : Result Counts Refusal) (o : Result Pages Refusal) → taken r rs ls ≡ and o counting → Within r nr nl
   within r o e = within_slots r o e
 
+-- what stands for a refused list's counts
+pub defaulted : (r : Result Counts Refusal) (n : Counts) → ResultUnwrapsOrElse r (λ c. (c.records ≡ 0) × (c.letters ≡ 0)) n → n ≡ used r
+defaulted (Ok c) n h = h
+defaulted (Err f) n h = λ i. record { records = h.0 i; letters = h.1 i }
+
 -- a script's check
 
 pub passed : {X : Type 0} (o : Option Refusal) (x : Unit {0}) (r : Result X Refusal) → Ok x ≡ answer o tt → unless_refused o r ≡ r
@@ -74,15 +79,16 @@ pub stopped : {X : Type 0} (o : Option Refusal) (f : Refusal) (r : Result X Refu
 stopped None f r e = let z : ◌≡◌ {A = ℕ} 0 1 = cc in absurd (omega arith)
 stopped (Some g) f r e = let k : f ≡ g = cc in ap Err k
 
-pub too_long : (b : Bool) (o : Option Refusal) (x : Unit {0}) → Ok x ≡ answer (or_else (refuse_if b TooLong 0) o) tt → b ≡ false
+too_long : (b : Bool) (o : Option Refusal) (x : Unit {0}) → Ok x ≡ answer (or_else (refuse_if b TooLong 0) o) tt → b ≡ false
 too_long false o x e = refl
 too_long true o x e = let z : ◌≡◌ {A = ℕ} 0 1 = cc in absurd (omega arith)
 
-pub whole : (s : List ℕ) (x : Unit {0}) → Ok x ≡ answer (script_check s) tt → take 4096 s ≡ s
-whole s x e =
-    elim (cases_lt 4096 (length s)) [
-      | inl h ↦ let k : true ≡ false = sym (lt-ltb 4096 (length s) h) ∙ too_long (ltb 4096 (length s)) (refuse_at (first_zero s) ZeroByte) x e in let z : ◌≡◌ {A = ℕ} 0 1 = cc in absurd (omega arith)
-      | inr h ↦ take_all 4096 s h
+-- a text that passes is as long as it may be
+pub whole : (limit : ℕ) (s : List ℕ) (o : Option Refusal) (x : Unit {0}) → Ok x ≡ answer (or_else (refuse_if (ltb limit (length s)) TooLong 0) o) tt → take limit s ≡ s
+whole limit s o x e =
+    elim (cases_lt limit (length s)) [
+      | inl h ↦ let k : true ≡ false = sym (lt-ltb limit (length s) h) ∙ too_long (ltb limit (length s)) o x e in let z : ◌≡◌ {A = ℕ} 0 1 = cc in absurd (omega arith)
+      | inr h ↦ take_all limit s h
     ]
 
 -- behind the counts

@@ -1,5 +1,4 @@
 pub mod Linking
-pub mod Clearing
 pub mod Keeping
 pub mod Views
 pub mod Sheeting

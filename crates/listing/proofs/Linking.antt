@@ -23,7 +23,8 @@ use Rattle.reading.specs.Placed.{perform, faulty, turn_at, replacing_at, sign_at
 use Rattle.reading.specs.Items.{shell, turn, turned, forget}
 use Rattle.reading.specs.Listed.{Places, Entry, placing, refusal_at, noted}
 use Rattle.reading.proofs.Laying.{at_once}
-use Rattle.reader.specs.Onto.{Sheets, sign_move, names_after, candidate, or_replaced, on_to, read_on}
+use Rattle.reader.specs.Sheets.{Sheets}
+use Rattle.reader.specs.Onto.{sign_move, names_after, candidate, or_replaced, on_to, read_on}
 use Rattle.listing.specs.Noting.{Noted, beside, entered, acted}
 use Rattle.listing.specs.Laying.{laying, noting, left_of}
 
@@ -127,7 +128,7 @@ module _ {X : Type 0} (enter : Entry → X → Result X Refusal) (fill : ℕ →
           ((n v : List ℕ) → lays (put-r (record { name = n; value = v })) s.left ≡ left_of (put_s n v)) →
           ((ms : List (List ℕ)) (d : Control) (t : Noted X) → lays (kr ms d t.places) t.left ≡ left_of (ks ms d t)) →
           lays (sign_at placing al shell again g p ns c s.places put-r kr) s.left
-          ≡ left_of (or_replaced W al ns (candidate W al g c) put_s (and (sign_move W.written W.placed W.filled g p c s) (λ h. ks (names_after g ns) h.at h.sheet)))
+          ≡ left_of (or_replaced W al ns (candidate W al g c) put_s (and (sign_move W g p c s) (λ h. ks (names_after g ns) h.at h.sheet)))
       sign_is (Byte b) p ns c s put-r put_s kr ks h k =
           choose ns (shell.name_before b c) put-r (turn_at placing (shell.byte b c) p s.places (λ d q. kr ns d q)) s.left put_s
           (and (laid_move (put p) (place p) (byte b c) s) (λ h. ks ns h.at h.sheet)) h

@@ -1,6 +1,6 @@
 -- Letters written as they come make the items' letters. Assumes nothing.
-use Rattle.std.proofs.Common.{◌≡◌, ℕ, ◌+◌, ◌-◌, ◌^◌, ◌<◌, ◌≤◌, min, Bool, true, false, cond, ltb, leb, List, [], ◌∷◌, ◌++◌, length, take, Ok, Err, Result, sym, refl, ap, ◌∙◌, inl, inr, arith}
-use Rattle.std.proofs.lemmas.List.{append-nil, append_assoc, length-append, length-take, length_push, take_all, take-take, take_at, take-append-le, length-take-le}
+use Rattle.std.proofs.Common.{◌≡◌, ℕ, ◌+◌, ◌-◌, ◌^◌, ◌<◌, ◌≤◌, min, cond, ltb, leb, List, [], ◌∷◌, ◌++◌, length, take, Some, None, Ok, Err, Option, Result, sym, refl, ap, ◌∙◌, inl, inr, arith}
+use Rattle.std.proofs.lemmas.List.{append-nil, append_assoc, length-append, length_push, take_all, take_at}
 use Rattle.std.proofs.lemmas.Bool.{cases_lt, cases_Bool, and_left, and_right, and_from, and_parts, leb-true, cond-true, cond-false, lt-ltb, le-ltb, le-leb, lt-leb}
 use Rattle.basics.specs.Checks.{refusal}
 use Rattle.basics.specs.declared.refusal.Refusal.{Refusal}
@@ -12,10 +12,11 @@ use Rattle.reading.specs.Laid.{and}
 use Rattle.reading.specs.Readings.{Event, act, hole, Ending, ended, refused}
 use Rattle.reading.specs.Listed.{Entry, Listed, listed_from}
 use Rattle.listing.specs.declared.record.Record.{Record}
-use Rattle.listing.specs.Writing.{Slots, fill, entry, no_hole}
+use Rattle.listing.specs.declared.record.Counts.{Counts}
+use Rattle.listing.specs.Writing.{Slots, entry, no_hole}
 use Rattle.listing.specs.Laying.{ending, events_laid}
-use Rattle.listing.specs.Listing.{Pages, numbers, record_of, put, fits, laid_items}
-use Rattle.listing.proofs.Views.{View, view, view_of, lettered, itemed, lower, forgotten, seen, entry_view}
+use Rattle.listing.specs.Listing.{Pages, counts_of, numbers, record_of, put, fits, laid_items}
+use Rattle.listing.proofs.Views.{View, view_of, lettered, itemed, forgotten, seen, entry_view}
 
 -- what is seen of events
 abbrev pub events_seen : List (Event Entry) → Ending Refusal → View → Result View Refusal
@@ -57,95 +58,103 @@ numbers_hole (filled_by e ∷ acc) d = numbers_hole acc d
 pub record Shown : Type 0 where
   pub records : List Record
   pub letters : List ℕ
-  pub record_count : ℕ
-  pub letter_count : ℕ
+  pub counts : Counts
   pub record_name : ℕ
   pub letter_name : ℕ
 
 abbrev pub shown : View → Shown
-shown v = record { records = v.records; letters = take v.filled.first v.letters; record_count = v.filled.count; letter_count = v.filled.first; record_name = v.record_name; letter_name = v.letter_name }
+shown v = record { records = v.records; letters = take v.given.letters v.letters; counts = v.given; record_name = v.record_name; letter_name = v.letter_name }
 
 module _ (nr nl b rn ln : ℕ) (short : b + nl < 2 ^ 64) where
   abbrev pub counted : Pages → Shown
-  counted p = record { records = p.records; letters = p.letters; record_count = length p.records; letter_count = length p.letters; record_name = rn; letter_name = ln }
+  counted p = record { records = p.records; letters = p.letters; counts = counts_of p; record_name = rn; letter_name = ln }
 
-  abbrev with_parts : List Record → ℕ → ℕ → ℕ → Bool → List ℕ → View
-  with_parts rs n first at full ls = view (fill n first at full) rs ls nr nl b rn ln
+  abbrev on_pages : Pages → Option ℕ → List ℕ → View
+  on_pages s o ls = record { given = counts_of s; waiting = o; records = s.records; letters = ls; record_room = nr; letter_room = nl; before = b; record_name = rn; letter_name = ln }
 
-  -- of the letters ls there are those for which there is room
-  abbrev pub holding : List Record → ℕ → List ℕ → View
-  holding rs first ls = with_parts rs (length rs) first (length (take nl ls)) (ltb nl (length ls)) (take nl ls)
+  -- the letters acc wait behind the pages s, unless there is no room for them
+  abbrev pub state : Pages → List ℕ → View
+  state s acc = cond (leb (length s.letters + length acc) nl) (on_pages s (Some (length acc)) (s.letters ++ acc)) (on_pages s None s.letters)
 
-  pub fits_all : (rs : List Record) (first : ℕ) (ls : List ℕ) → length ls ≤ nl → holding rs first ls ≡ with_parts rs (length rs) first (length ls) false ls
-  fits_all rs first ls h =
-      ap (λ l. with_parts rs (length rs) first (length l) (ltb nl (length ls)) l) (take_all nl ls h)
-      ∙ ap (λ x. with_parts rs (length rs) first (length ls) x ls) (le-ltb nl (length ls) h)
+  pub fit : (s : Pages) (acc : List ℕ) → length s.letters + length acc ≤ nl → state s acc ≡ on_pages s (Some (length acc)) (s.letters ++ acc)
+  fit s acc h = cond-true (leb (length s.letters + length acc) nl) _ _ (le-leb (length s.letters + length acc) nl h)
 
-  over : (rs : List Record) (first : ℕ) (ls : List ℕ) → nl < length ls → holding rs first ls ≡ with_parts rs (length rs) first nl true (take nl ls)
-  over rs first ls h =
-      ap (λ n. with_parts rs (length rs) first n (ltb nl (length ls)) (take nl ls)) (length-take-le nl ls (omega arith))
-      ∙ ap (λ x. with_parts rs (length rs) first nl x (take nl ls)) (lt-ltb nl (length ls) h)
+  over : (s : Pages) (acc : List ℕ) → nl < length s.letters + length acc → state s acc ≡ on_pages s None s.letters
+  over s acc h = cond-false (leb (length s.letters + length acc) nl) _ _ (lt-leb (length s.letters + length acc) nl h)
 
-  letter_is : (rs : List Record) (first : ℕ) (ls : List ℕ) (l : ℕ) → lettered l (holding rs first ls) ≡ holding rs first (ls ++ (l ∷ []))
-  letter_is rs first ls l =
-      let k : length (ls ++ (l ∷ [])) ≡ length ls + 1 = length_push ls l in
-      elim (cases_lt (length ls) nl) [
-        | inl h ↦
-            ap (lettered l) (fits_all rs first ls (omega arith))
-            ∙ cond-true (ltb (length ls) nl) _ _ (lt-ltb (length ls) nl h)
-            ∙ ap (λ n. with_parts rs (length rs) first n false (ls ++ (l ∷ []))) (sym k)
-            ∙ sym (fits_all rs first (ls ++ (l ∷ [])) (omega arith))
+  -- whatever waits, the letters that count are those of the pages
+  fronts : (s : Pages) (acc : List ℕ) → take (length s.letters) (s.letters ++ acc) ≡ s.letters
+  fronts s acc = take_at s.letters acc (length s.letters) refl
+
+  own : (s : Pages) → take (length s.letters) s.letters ≡ s.letters
+  own s = take_all (length s.letters) s.letters (omega arith)
+
+  letter_is : (s : Pages) (acc : List ℕ) (x : ℕ) → lettered x (state s acc) ≡ state s (acc ++ (x ∷ []))
+  letter_is s acc x =
+      let k : length (acc ++ (x ∷ [])) ≡ length acc + 1 = length_push acc x in
+      elim (cases_lt nl (length s.letters + length acc)) [
+        | inl h ↦ ap (lettered x) (over s acc h) ∙ sym (over s (acc ++ (x ∷ [])) (omega arith))
         | inr h ↦
-            cond-false (ltb (length (take nl ls)) nl) _ _ (le-ltb _ nl (omega (arith, length-take-le nl ls h)))
-            ∙ ap (λ n. with_parts rs (length rs) first n true (take nl ls)) (length-take-le nl ls h)
-            ∙ ap (λ x. with_parts rs (length rs) first nl true x) (sym (take-append-le nl ls (l ∷ []) h))
-            ∙ sym (over rs first (ls ++ (l ∷ [])) (omega arith))
-      ]
-
-  least : (a c : ℕ) → a ≤ c → lower a c ≡ a
-  least a c h =
-      elim (cases_lt a c) [ inl k ↦ cond-true (ltb a c) a c (lt-ltb a c k) | inr k ↦ cond-false (ltb a c) a c (le-ltb a c k) ∙ (let e : c ≡ a = omega arith in e) ]
-
-  forgotten_is : (rs : List Record) (ls acc : List ℕ) → length ls ≤ nl → forgotten (holding rs (length ls) (ls ++ acc)) ≡ holding rs (length ls) ls
-  forgotten_is rs ls acc h =
-      let x = ls ++ acc in
-      ap (λ n. with_parts rs (length rs) (length ls) n false (take n (take nl x))) (least (length ls) (length (take nl x)) (simp (length-take, length-append) (omega arith)))
-      ∙ ap (λ l. with_parts rs (length rs) (length ls) (length ls) false l) (take-take (length ls) nl x h ∙ take_at ls acc (length ls) refl)
-      ∙ sym (fits_all rs (length ls) ls h)
-
-  unsaturated : (n : ℕ) → n ≤ nl → min (b + n) (2 ^ 64 - 1) ≡ b + n
-  unsaturated n h = omega arith
-
-  item_is : (x : Listed) (s : Pages) → length s.letters ≤ nl →
-      itemed x.item.kind x.item.depth x.place (holding s.records (length s.letters) (s.letters ++ numbers x.item.letters))
-      ≡ cond (fits nr nl x s) (Ok (holding (put b x s).records (length (put b x s).letters) (put b x s).letters)) (Err (refusal NoRoom 0))
-  item_is x s le =
-      let rs = s.records in
-      let ls = s.letters in
-      let acc = numbers x.item.letters in
-      let k : length (ls ++ acc) ≡ length ls + length acc = length-append ls acc in
-      elim (cases_lt nl (length ls + length acc)) [
-        | inl h ↦
-            ap (itemed x.item.kind x.item.depth x.place) (over rs (length ls) (ls ++ acc) (omega arith))
-            ∙ sym (cond-false (fits nr nl x s) _ _ (and_right _ _ (lt-leb (length ls + length acc) nl h)))
-        | inr h ↦
-            ap (itemed x.item.kind x.item.depth x.place) (fits_all rs (length ls) (ls ++ acc) (omega arith))
-            ∙ elim (cases_lt (length rs) nr) [
+            ap (lettered x) (fit s acc h)
+            ∙ elim (cases_lt (length s.letters + length acc) nl) [
               | inl j ↦
-                  cond-false (leb nr (length rs)) _ _ (lt-leb nr (length rs) j)
-                  ∙ ap (λ n. Ok (with_parts (rs ++ (record { kind = (record_of x 0).kind; code = (record_of x 0).code; depth = x.item.depth; first = n; count = length (ls ++ acc) - length ls; place = x.place } ∷ [])) (length rs + 1) (length (ls ++ acc)) (length (ls ++ acc)) false (ls ++ acc))) (unsaturated (length ls) le)
-                  ∙ ap (λ n. Ok (with_parts (rs ++ (record { kind = (record_of x 0).kind; code = (record_of x 0).code; depth = x.item.depth; first = b + length ls; count = n; place = x.place } ∷ [])) (length rs + 1) (length (ls ++ acc)) (length (ls ++ acc)) false (ls ++ acc))) (let e : length (ls ++ acc) - length ls ≡ length acc = omega arith in e)
-                  ∙ ap (λ n. Ok (with_parts (rs ++ (record_of x (b + length ls) ∷ [])) n (length (ls ++ acc)) (length (ls ++ acc)) false (ls ++ acc))) (sym (length_push rs (record_of x (b + length ls))))
-                  ∙ ap Ok (sym (fits_all (rs ++ (record_of x (b + length ls) ∷ [])) (length (ls ++ acc)) (ls ++ acc) (omega arith)))
-                  ∙ sym (cond-true (fits nr nl x s) _ _ (and_from _ _ (lt-ltb (length rs) nr j) (le-leb (length ls + length acc) nl h)))
+                  cond-true (ltb (length s.letters + length acc) nl) _ _ (lt-ltb (length s.letters + length acc) nl j)
+                  ∙ ap (λ n. on_pages s (Some n) ((s.letters ++ acc) ++ (x ∷ []))) (sym k)
+                  ∙ ap (λ ls. on_pages s (Some (length (acc ++ (x ∷ [])))) ls) (append_assoc s.letters acc (x ∷ []))
+                  ∙ sym (fit s (acc ++ (x ∷ [])) (omega arith))
               | inr j ↦
-                  cond-true (leb nr (length rs)) _ _ (le-leb nr (length rs) j)
-                  ∙ sym (cond-false (fits nr nl x s) _ _ (and_left _ _ (le-ltb (length rs) nr j)))
+                  cond-false (ltb (length s.letters + length acc) nl) _ _ (le-ltb (length s.letters + length acc) nl j)
+                  ∙ ap (λ ls. on_pages s None ls) (fronts s acc)
+                  ∙ sym (over s (acc ++ (x ∷ [])) (omega arith))
             ]
       ]
 
-  abbrev state : Pages → List ℕ → View
-  state s acc = holding s.records (length s.letters) (s.letters ++ acc)
+  forgotten_is : (s : Pages) (acc : List ℕ) → length s.letters ≤ nl → forgotten (state s acc) ≡ state s []
+  forgotten_is s acc h =
+      elim (cases_lt nl (length s.letters + length acc)) [
+        | inl j ↦ ap forgotten (over s acc j) ∙ ap (λ ls. on_pages s (Some 0) ls) (own s ∙ sym (append-nil s.letters))
+        | inr j ↦ ap forgotten (fit s acc j) ∙ ap (λ ls. on_pages s (Some 0) ls) (fronts s acc ∙ sym (append-nil s.letters))
+      ]
+      ∙ sym (fit s [] (omega arith))
+
+  shown_state : (s : Pages) (acc : List ℕ) → shown (state s acc) ≡ counted s
+  shown_state s acc =
+      let at : List ℕ → Shown = λ ls. record { records = s.records; letters = ls; counts = counts_of s; record_name = rn; letter_name = ln } in
+      elim (cases_lt nl (length s.letters + length acc)) [
+        | inl j ↦ ap shown (over s acc j) ∙ ap at (own s)
+        | inr j ↦ ap shown (fit s acc j) ∙ ap at (fronts s acc)
+      ]
+
+  -- the place of an item's letters is told as it is
+  unsaturated : (n : ℕ) → n ≤ nl → min (b + n) (2 ^ 64 - 1) ≡ b + n
+  unsaturated n h = omega arith
+
+  item_is : (x : Listed) (s : Pages) → itemed x.item.kind x.item.depth x.place (state s (numbers x.item.letters)) ≡ cond (fits nr nl x s) (Ok (state (put b x s) [])) (Err (refusal NoRoom 0))
+  item_is x s =
+      let rs = s.records in
+      let acc = numbers x.item.letters in
+      let r = record_of x (b + length s.letters) in
+      let n : length (s.letters ++ acc) ≡ length s.letters + length acc = length-append s.letters acc in
+      elim (cases_lt nl (length s.letters + length acc)) [
+        | inl h ↦
+            ap (itemed x.item.kind x.item.depth x.place) (over s acc h)
+            ∙ sym (cond-false (fits nr nl x s) _ _ (and_right _ _ (lt-leb (length s.letters + length acc) nl h)))
+        | inr h ↦
+            ap (itemed x.item.kind x.item.depth x.place) (fit s acc h)
+            ∙ elim (cases_lt (length rs) nr) [
+              | inl j ↦
+                  cond-true (ltb (length rs) nr) _ _ (lt-ltb (length rs) nr j)
+                  ∙ ap (λ m. Ok (record (on_pages s (Some 0) (s.letters ++ acc)) { given = record { records = length rs + 1; letters = length s.letters + length acc }; records = rs ++ (record r { first = m } ∷ []) })) (unsaturated (length s.letters) (omega arith))
+                  ∙ ap (λ m. Ok (record (on_pages s (Some 0) (s.letters ++ acc)) { given = record { records = m; letters = length s.letters + length acc }; records = rs ++ (r ∷ []) })) (sym (length_push rs r))
+                  ∙ ap (λ m. Ok (record (on_pages s (Some 0) (s.letters ++ acc)) { given = record { records = length (rs ++ (r ∷ [])); letters = m }; records = rs ++ (r ∷ []) })) (sym n)
+                  ∙ ap (λ ls. Ok (on_pages (put b x s) (Some 0) ls)) (sym (append-nil (s.letters ++ acc)))
+                  ∙ ap Ok (sym (fit (put b x s) [] (omega arith)))
+                  ∙ sym (cond-true (fits nr nl x s) _ _ (and_from _ _ (lt-ltb (length rs) nr j) (le-leb (length s.letters + length acc) nl h)))
+              | inr j ↦
+                  cond-false (ltb (length rs) nr) _ _ (le-ltb (length rs) nr j)
+                  ∙ sym (cond-false (fits nr nl x s) _ _ (and_left _ _ (le-ltb (length rs) nr j)))
+            ]
+      ]
 
   abbrev show : Result View Refusal → Result Shown Refusal
   show r = and r (λ v. Ok (shown v))
@@ -157,26 +166,20 @@ module _ (nr nl b rn ln : ℕ) (short : b + nl < 2 ^ 64) where
       ((t : Pages) (more : List ItemLetter) → length t.letters ≤ nl → show (events_seen xs e (state t (numbers more))) ≡ count (laid_items b nr nl (listed_from more xs) e t)) → (w : Written) (p : ℕ) →
       show (and (seen w p (state s (numbers acc))) (λ u. events_seen xs e u)) ≡ count (laid_items b nr nl (listed_from acc (act (record { what = w; place = p }) ∷ xs)) e s)
   by xs e s acc h ih (letter l) p =
-      ap (λ u. show (events_seen xs e u)) (letter_is s.records (length s.letters) (s.letters ++ numbers acc) (letter_number l) ∙ ap (holding s.records (length s.letters)) (append_assoc s.letters (numbers acc) (letter_number l ∷ []) ∙ ap (λ ns. s.letters ++ ns) (sym (numbers_known acc l))))
+      ap (λ u. show (events_seen xs e u)) (letter_is s (numbers acc) (letter_number l) ∙ ap (state s) (sym (numbers_known acc l)))
       ∙ ih s (acc ++ (known l ∷ [])) h
-  by xs e s acc h ih forget p =
-      ap (λ u. show (events_seen xs e u)) (forgotten_is s.records s.letters (numbers acc) h ∙ ap (holding s.records (length s.letters)) (sym (append-nil s.letters)))
-      ∙ ih s [] h
+  by xs e s acc h ih forget p = ap (λ u. show (events_seen xs e u)) (forgotten_is s (numbers acc) h) ∙ ih s [] h
   by xs e s acc h ih (item k n) p =
       let x : Listed = record { item = record { kind = k; depth = n; letters = acc }; place = p } in
-      ap (λ r. show (and r (λ u. events_seen xs e u))) (item_is x s h)
+      ap (λ r. show (and r (λ u. events_seen xs e u))) (item_is x s)
       ∙ elim (cases_Bool (fits nr nl x s)) [
-        | inl t ↦ rw (t) (
-            ap (λ l. show (events_seen xs e (holding (put b x s).records (length (s.letters ++ numbers acc)) l))) (sym (append-nil (s.letters ++ numbers acc)))
-            ∙ ih (put b x s) [] (omega (arith, length-append s.letters (numbers acc), leb-true (length s.letters + length (numbers acc)) nl (and_parts _ _ t).1)))
+        | inl t ↦ rw (t) (ih (put b x s) [] (omega (arith, length-append s.letters (numbers acc), leb-true (length s.letters + length (numbers acc)) nl (and_parts _ _ t).1)))
         | inr t ↦ rw (t) refl
       ]
 
   pub all : (xs : List (Event Entry)) (e : Ending Refusal) (s : Pages) (acc : List ItemLetter) → length s.letters ≤ nl →
       show (events_seen xs e (state s (numbers acc))) ≡ count (laid_items b nr nl (listed_from acc xs) e s)
-  all [] ended s acc h =
-      ap (λ l. Ok (record { records = s.records; letters = l; record_count = length s.records; letter_count = length s.letters; record_name = rn; letter_name = ln }))
-      (take-take (length s.letters) nl (s.letters ++ numbers acc) h ∙ take_at s.letters (numbers acc) (length s.letters) refl)
+  all [] ended s acc h = ap Ok (shown_state s (numbers acc))
   all [] (refused f) s acc h = refl
   all (hole d ∷ xs) e s acc h =
       ap (λ ns. show (events_seen xs e (state s ns))) (sym (numbers_hole acc d)) ∙ all xs e s (acc ++ (filled_by d ∷ [])) h

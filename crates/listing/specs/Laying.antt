@@ -4,7 +4,7 @@ use Rattle.basics.specs.declared.refusal.Refusal.{Refusal}
 use Rattle.reading.specs.Laid.{and}
 use Rattle.reading.specs.Readings.{Event, act, hole, Ending, ended, refused, Reading}
 use Rattle.reading.specs.Listed.{Entry, refusal_at}
-use Rattle.reader.specs.Onto.{Sheets}
+use Rattle.reader.specs.Sheets.{Sheets}
 use Rattle.listing.specs.Noting.{Noted, beside, acted}
 
 abbrev pub ending : {X : Type 0} → Ending Refusal → X → Result X Refusal

@@ -1,5 +1,5 @@
 -- What a list answers, and what it leaves on the sheet. Assumes nothing.
-use Rattle.std.specs.Prelude.{ℕ, ◌+◌, ◌-◌, ◌≤◌, Bool, cond, ◌&&◌, List, [], ◌∷◌, ◌++◌, length, take, replicate, Some, None, Ok, Err, Option, Result, nat_le, nat_lt}
+use Rattle.std.specs.Prelude.{◌≡◌, ℕ, ◌+◌, ◌-◌, ◌≤◌, Bool, cond, ◌&&◌, List, [], ◌∷◌, ◌++◌, length, take, replicate, Some, None, Ok, Err, Option, Result, nat_le, nat_lt}
 use Rattle.basics.specs.Checks.{refusal, refuse_if, refuse_at, or_else, answer}
 use Rattle.basics.specs.Searches.{first_zero}
 use Rattle.basics.specs.declared.refusal.Refusal.{Refusal}
@@ -104,9 +104,13 @@ Within (Err f) nr nl = Unit {0}
 
 -- sheets
 
--- a script has at most 4,096 bytes, and no byte 0
+-- a text has at most so many bytes, and no byte 0
+abbrev pub text_check : ℕ → List ℕ → Option Refusal
+text_check limit s = or_else (refuse_if (nat_lt limit (length s)) TooLong 0) (refuse_at (first_zero s) ZeroByte)
+
+-- a script has at most 4,096 bytes
 abbrev pub script_check : List ℕ → Option Refusal
-script_check s = or_else (refuse_if (nat_lt 4096 (length s)) TooLong 0) (refuse_at (first_zero s) ZeroByte)
+script_check s = text_check 4096 s
 
 abbrev pub unless_refused : {X : Type 0} → Option Refusal → Result X Refusal → Result X Refusal
 unless_refused None r = r
@@ -119,6 +123,9 @@ pub record Held : Type 0 where
 
 abbrev pub held : Counts → List Record → List ℕ → Held
 held c rs ls = record { counts = c; records = rs; letters = ls }
+
+abbrev pub no_counts : Counts
+no_counts = record { records = 0; letters = 0 }
 
 abbrev pub held_of : Sheet → Held
 held_of s = held s.counts s.records.now s.letters.now
@@ -149,3 +156,13 @@ after h (Err f) = left (Err f) (behind h (filling (length h.records - h.counts.r
 -- a bad sheet is left as it is
 abbrev pub listing : Aliases → List ℕ → Held → Left
 listing al s h = cond (good h) (after h (listed_on al s h)) (left (answer (or_else (script_check s) (Some (refusal NoRoom 0))) 0) h)
+
+-- the slots are still the same ones
+pub record SameSlots (old new : Sheet) : Type 0 where
+  pub records : new.records.ghost_name ≡ old.records.ghost_name
+  pub letters : new.letters.ghost_name ≡ old.letters.ghost_name
+
+-- a list of a script under these aliases on a sheet
+pub record Lists (al : Aliases) (s : List ℕ) (old new : Sheet) (r : Result ℕ Refusal) : Type 0 where
+  pub left : left r (held_of new) ≡ listing al s (held_of old)
+  pub slots : SameSlots old new

@@ -8,9 +8,9 @@ ghost use Rattle.listing.specs.Checking.{template_check, holes_of, template_hole
 use crate::mask::HoleMask;
 use crate::places::Places;
 use crate::read::read;
+use crate::text::check_text;
 use aliases::table::AliasTable;
 use basics::refusal::{Reason, Refusal};
-use basics::search::first_zero;
 use source::alias::AliasSource;
 use source::template::{TEMPLATE_LIMIT, TemplateSource, first_bad_hole};
 
@@ -18,23 +18,9 @@ use source::template::{TEMPLATE_LIMIT, TemplateSource, first_bad_hole};
 fn check_bytes(template: &[u8]) -> Result<(), Refusal>
     ensures { result ≡ answer (template_check template.now) tt }
 {
-    if template.len() > TEMPLATE_LIMIT {
-        return Err(Refusal {
-            reason: Reason::TooLong,
-            place: 0,
-        });
-    }
-    if let Some(place) = first_zero(template) {
-        return Err(Refusal {
-            reason: Reason::ZeroByte,
-            place,
-        });
-    }
+    check_text(template, TEMPLATE_LIMIT)?;
     match first_bad_hole(template) {
-        Some(place) => Err(Refusal {
-            reason: Reason::BadHole,
-            place,
-        }),
+        Some(place) => Err(Reason::BadHole.at(place)),
         None => Ok(()),
     }
 }
@@ -48,10 +34,8 @@ fn read_holes(template: &[u8], aliases: &AliasTable) -> Result<u16, Refusal>
         places: Places::new(),
         mask: 0,
     };
-    match read(&mut source, &mut out) {
-        Ok(_) => Ok(out.mask),
-        Err(e) => Err(e),
-    }
+    read(&mut source, &mut out)?;
+    Ok(out.mask)
 }
 
 // Reads a template under the aliases, and tells its holes: a bit for each, hole 0 the lowest. Those that its reading meets
@@ -60,8 +44,6 @@ pub fn check_template(template: &[u8], aliases: &AliasTable) -> Result<u16, Refu
     ensures met { result ≡ template_holes (aliases_of aliases.now).named template.now }
     ensures masked { result ≡ masked_holes (aliases_of aliases.now).named template.now }
 {
-    match check_bytes(template) {
-        Ok(_) => read_holes(template, aliases),
-        Err(e) => Err(e),
-    }
+    check_bytes(template)?;
+    read_holes(template, aliases)
 }

@@ -8,4 +8,5 @@ pub mod mask;
 pub mod places;
 mod read;
 pub mod record;
+mod text;
 pub mod written;

@@ -5,16 +5,16 @@ ghost use Rattle.basics.specs.Checks.{answer, or_else, refusal};
 ghost use Rattle.basics.specs.declared.refusal.Reason.TheVariants.{NoRoom};
 ghost use Rattle.reading.specs.Laid.{and};
 ghost use Rattle.reading.specs.Listed.{script_reading};
-ghost use Rattle.listing.specs.Listing.{script_check, on_slots, taken, counting, used, filled, filling, Within, unless_refused, left, held, held_of, after, listed_on, listing};
+ghost use Rattle.listing.specs.Listing.{script_check, on_slots, taken, counting, filled, filling, Within, unless_refused, left, held, after, listed_on, Lists};
 
 use crate::clear::clear;
 use crate::places::Places;
 use crate::read::read;
 use crate::record::{Counts, Record, Sheet};
+use crate::text::check_text;
 use crate::written::{Fill, SheetOutput};
 use aliases::table::AliasTable;
 use basics::refusal::{Reason, Refusal};
-use basics::search::first_zero;
 use source::alias::AliasSource;
 use source::script::{SCRIPT_LIMIT, ScriptSource};
 
@@ -32,22 +32,12 @@ pub const NO_RECORD: Record = Record {
 pub fn check_script(script: &[u8]) -> Result<(), Refusal>
     ensures { result ≡ answer (script_check script.now) tt }
 {
-    if script.len() > SCRIPT_LIMIT {
-        return Err(Refusal {
-            reason: Reason::TooLong,
-            place: 0,
-        });
-    }
-    match first_zero(script) {
-        Some(place) => Err(Refusal {
-            reason: Reason::ZeroByte,
-            place,
-        }),
-        None => Ok(()),
-    }
+    check_text(script, SCRIPT_LIMIT)
 }
 
 // Writes a script's items on free slots, behind that many letters of the sheet, and tells how many slots they take.
+// Stays: the free slots are parameters. A struct of them was tried in three ways: passed by value it is not covered; by `&mut` a
+// slice in it is not known to keep its length where the reading is refused; with a fact about its slices it hides what they end as.
 fn write_items(
     script: &[u8],
     aliases: &AliasTable,
@@ -62,22 +52,18 @@ fn write_items(
     let mut out = SheetOutput {
         places: Places::new(),
         fill: Fill {
-            count: 0,
-            first: 0,
-            at: 0,
-            full: false,
+            given: Counts {
+                records: 0,
+                letters: 0,
+            },
+            waiting: Some(0),
         },
         before,
         records,
         letters,
     };
-    match read(&mut source, &mut out) {
-        Ok(_) => Ok(Counts {
-            records: out.fill.count,
-            letters: out.fill.first,
-        }),
-        Err(e) => Err(e),
-    }
+    read(&mut source, &mut out)?;
+    Ok(out.fill.given)
 }
 
 // The same for a script that is to be checked first.
@@ -91,23 +77,8 @@ fn write_checked(
     requires { before + length letters.old < 2 ^ 64 }
     ensures { taken result records.new letters.new ≡ and (unless_refused (script_check script.now) (on_slots before (length records.old) (length letters.old) (script_reading (aliases_of aliases.now).named script.now))) counting }
 {
-    match check_script(script) {
-        Ok(_) => write_items(script, aliases, before, records, letters),
-        Err(e) => Err(e),
-    }
-}
-
-// A refused list uses no slot.
-fn used_slots(answer: Result<Counts, Refusal>) -> Counts
-    ensures { result ≡ used answer }
-{
-    match answer {
-        Ok(counts) => counts,
-        Err(_) => Counts {
-            records: 0,
-            letters: 0,
-        },
-    }
+    check_script(script)?;
+    write_items(script, aliases, before, records, letters)
 }
 
 // The same, and zeros in the slots that stay free.
@@ -123,7 +94,7 @@ fn fill_slots(
     ensures within { Within result (length records.old) (length letters.old) }
 {
     let answer = write_checked(script, aliases, before, records, letters);
-    let used = used_slots(answer);
+    let used = answer.unwrap_or_default();
     clear(records, used.records, NO_RECORD);
     clear(letters, used.letters, 0);
     answer
@@ -183,64 +154,40 @@ fn list_behind(
     let (first_record, first_letter) = (before.records, before.letters);
     let guard = CountGuard { counts, before };
     claim(guard.counts, records.len(), letters.len());
-    match fill_slots(
+    let added = fill_slots(
         script,
         aliases,
         first_letter,
         &mut records[first_record..],
         &mut letters[first_letter..],
-    ) {
-        Ok(added) => {
-            guard.accept(Counts {
-                records: first_record + added.records,
-                letters: first_letter + added.letters,
-            });
-            Ok(added.records)
-        }
-        Err(e) => Err(e),
-    }
+    )?;
+    guard.accept(Counts {
+        records: first_record + added.records,
+        letters: first_letter + added.letters,
+    });
+    Ok(added.records)
 }
 
 // A bad sheet is refused after a bad script.
 fn refuse_sheet(script: &[u8]) -> Result<usize, Refusal>
     ensures { result ≡ answer (or_else (script_check script.now) (Some (refusal NoRoom 0))) 0 }
 {
-    match check_script(script) {
-        Ok(_) => Err(Refusal {
-            reason: Reason::NoRoom,
-            place: 0,
-        }),
-        Err(e) => Err(e),
-    }
-}
-
-// Lists on a sheet by its parts.
-fn list_parts(
-    script: &[u8],
-    aliases: &AliasTable,
-    counts: &mut Counts,
-    records: &mut [Record],
-    letters: &mut [u16],
-) -> Result<usize, Refusal>
-    ensures { left result (held counts.new records.new letters.new) ≡ listing (aliases_of aliases.now).named script.now (held counts.old records.old letters.old) }
-{
-    if counts.records <= records.len() && counts.letters <= letters.len() {
-        list_behind(script, aliases, counts, records, letters)
-    } else {
-        refuse_sheet(script)
-    }
+    check_script(script)?;
+    Err(Reason::NoRoom.at(0))
 }
 
 // Lists a script's items, under the aliases, behind the counts of a sheet, and tells how many records it added.
 pub fn list(script: &[u8], aliases: &AliasTable, sheet: &mut Sheet) -> Result<usize, Refusal>
-    ensures left { left result (held_of sheet.new) ≡ listing (aliases_of aliases.now).named script.now (held_of sheet.old) }
-    ensures records { sheet.new.records.ghost_name ≡ sheet.old.records.ghost_name }
-    ensures letters { sheet.new.letters.ghost_name ≡ sheet.old.letters.ghost_name }
+    ensures { Lists (aliases_of aliases.now).named script.now sheet.old sheet.new result }
 {
     let Sheet {
         counts,
         records,
         letters,
     } = sheet;
-    list_parts(script, aliases, counts, records, letters)
+    if counts.records <= records.len() && counts.letters <= letters.len() {
+        list_behind(script, aliases, counts, records, letters)
+    } else {
+        refuse_sheet(script)
+    }
 }

@@ -22,13 +22,7 @@ impl Sink for HoleMask {
 
     ghost sheet = { λ o. mask_of o };
 
-    ghost written = { (noting keep take_hole).written };
-
-    ghost placed = { (noting keep take_hole).placed };
-
-    ghost filled = { (noting keep take_hole).filled };
-
-    ghost word = { (noting keep take_hole).word };
+    ghost writes = { noting keep take_hole };
 
     fn put(&mut self, act: Act, place: u16) -> Result<(), Refusal> {
         self.places.note(act, place);

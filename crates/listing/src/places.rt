@@ -20,7 +20,7 @@ pub struct WordPlaces {
 }
 
 // Places of the last backslash, `$` and operator, and of the body.
-#[derive(Drop)]
+#[derive(Default, Drop)]
 pub struct Marks {
     pub(crate) backslash: u16,
     pub(crate) dollar: u16,
@@ -39,8 +39,7 @@ impl WordPlaces {
     fn open(&mut self)
         ensures { words_of self.new ≡ opened (words_of self.old) }
     {
-        let all = self.all;
-        self.outer.push(all);
+        let _ = self.outer.push(self.all);
     }
 
     // It closes, and what is left of the word begins behind.
@@ -48,10 +47,7 @@ impl WordPlaces {
         ensures { words_of self.new ≡ closed place (words_of self.old) }
     {
         self.word = place as usize + 1;
-        self.all = match self.outer.top() {
-            Some(all) => all,
-            None => 0,
-        };
+        self.all = self.outer.top().unwrap_or(0);
         self.outer.pop();
     }
 
@@ -78,12 +74,7 @@ impl Places {
                 all: 0,
                 outer: Stack::new(0),
             },
-            marks: Marks {
-                backslash: 0,
-                dollar: 0,
-                operator: 0,
-                body: 0,
-            },
+            marks: Marks::default(),
         }
     }
 
@@ -110,10 +101,7 @@ impl Places {
     pub fn refusal(&self, fault: Fault, here: u16) -> Refusal
         ensures { result ≡ refusal_at fault here (places_of self.now) }
     {
-        Refusal {
-            reason: fault.reason,
-            place: self.place_of(fault.at, here),
-        }
+        fault.reason.at(self.place_of(fault.at, here))
     }
 
     // A word begins.

@@ -1,13 +1,8 @@
 // What the reader writes on the free slots of a sheet.
-ghost use Rattle.std.specs.Prelude.{◌≡◌};
-ghost use Rattle.reading.specs.Listed.{placing};
-ghost use Rattle.reader.specs.Held.{result_of};
-ghost use Rattle.listing.specs.Noting.{Noted, entered, places_of};
-ghost use Rattle.listing.specs.Laying.{noting};
-ghost use Rattle.listing.specs.Writing.{Slots, slots_of, sheet_of, with_letter, with_item, without_letters, entry, no_hole};
+ghost use Rattle.std.specs.Prelude.{◌+◌, ◌^◌, ◌<◌, unwrap_or};
 
 use crate::places::Places;
-use crate::record::Record;
+use crate::record::{Counts, Record};
 use basics::refusal::{Reason, Refusal};
 use commands::item::Kind;
 use reader::sink::Sink;
@@ -17,13 +12,11 @@ use tokens::letter::Letter;
 // How far the free slots are filled. Letters are written as they come, and count once their item is given.
 #[derive(Clone, Copy)]
 pub struct Fill {
-    // records given
-    pub(crate) count: usize,
-    // letters of the items given, and all letters written
-    pub(crate) first: usize,
-    pub(crate) at: usize,
-    // a letter came for which there was no slot
-    pub(crate) full: bool,
+    // the slots of the items given
+    pub(crate) given: Counts,
+    // the letters behind those, which wait for their item; none once a letter came for which there was no slot
+    pub(crate) waiting: Option<usize>,
+    ghost counted: { given.letters + unwrap_or waiting 0 < 2 ^ 64 },
 }
 
 #[derive(Drop)]
@@ -37,15 +30,25 @@ pub struct SheetOutput<'r, 'l> {
 }
 
 impl SheetOutput<'_, '_> {
+    ghost use Rattle.std.specs.Prelude.{◌≡◌};
+    ghost use Rattle.reading.specs.Listed.{placing};
+    ghost use Rattle.reader.specs.Held.{result_of};
+    ghost use Rattle.listing.specs.Noting.{entered, places_of};
+    ghost use Rattle.listing.specs.Writing.{slots_of, with_letter, with_item, without_letters, entry};
+
     fn letter(&mut self, letter: Letter)
         ensures left { slots_of self.new ≡ with_letter letter (slots_of self.old) }
         ensures places { places_of self.new.places ≡ places_of self.old.places }
     {
-        if self.fill.at < self.letters.len() {
-            self.letters[self.fill.at] = letter.number();
-            self.fill.at += 1;
-        } else {
-            self.fill.full = true;
+        if let Some(n) = self.fill.waiting {
+            let at = self.fill.given.letters + n;
+            // Stays: the index is tested by hand, since behind a lent slot a proof knows the slice's length and no element
+            if at < self.letters.len() {
+                self.letters[at] = u16::from(letter);
+                self.fill.waiting = Some(n + 1);
+            } else {
+                self.fill.waiting = None;
+            }
         }
     }
 
@@ -53,23 +56,27 @@ impl SheetOutput<'_, '_> {
         ensures left { result_of result (slots_of self.new) ≡ with_item kind depth place (slots_of self.old) }
         ensures places { places_of self.new.places ≡ places_of self.old.places }
     {
-        if self.fill.full || self.fill.count >= self.records.len() {
-            return Err(Refusal {
-                reason: Reason::NoRoom,
-                place: 0,
-            });
+        match self.fill.waiting {
+            Some(count) if self.fill.given.records < self.records.len() => {
+                self.records[self.fill.given.records] = Record {
+                    kind: kind.number(),
+                    code: kind.code(),
+                    depth,
+                    first: self.before.saturating_add(self.fill.given.letters),
+                    count,
+                    place,
+                };
+                self.fill = Fill {
+                    given: Counts {
+                        records: self.fill.given.records + 1,
+                        letters: self.fill.given.letters + count,
+                    },
+                    waiting: Some(0),
+                };
+                Ok(())
+            }
+            _ => Err(Reason::NoRoom.at(0)),
         }
-        self.records[self.fill.count] = Record {
-            kind: kind.number(),
-            code: kind.code(),
-            depth,
-            first: self.before.saturating_add(self.fill.first),
-            count: self.fill.at.saturating_sub(self.fill.first),
-            place,
-        };
-        self.fill.count += 1;
-        self.fill.first = self.fill.at;
-        Ok(())
     }
 
     // The letters since the last item are a replaced word's.
@@ -77,10 +84,7 @@ impl SheetOutput<'_, '_> {
         ensures left { slots_of self.new ≡ without_letters (slots_of self.old) }
         ensures places { places_of self.new.places ≡ places_of self.old.places }
     {
-        if self.fill.first < self.fill.at {
-            self.fill.at = self.fill.first;
-        }
-        self.fill.full = false;
+        self.fill.waiting = Some(0);
     }
 
     fn write(&mut self, act: Act, place: u16) -> Result<(), Refusal>
@@ -112,17 +116,15 @@ impl SheetOutput<'_, '_> {
 }
 
 impl<'r, 'l> Sink for SheetOutput<'r, 'l> {
+    ghost use Rattle.listing.specs.Noting.{Noted};
+    ghost use Rattle.listing.specs.Laying.{noting};
+    ghost use Rattle.listing.specs.Writing.{Slots, sheet_of, entry, no_hole};
+
     ghost Sheet = { Noted Slots };
 
     ghost sheet = { λ o. sheet_of o };
 
-    ghost written = { (noting entry no_hole).written };
-
-    ghost placed = { (noting entry no_hole).placed };
-
-    ghost filled = { (noting entry no_hole).filled };
-
-    ghost word = { (noting entry no_hole).word };
+    ghost writes = { noting entry no_hole };
 
     fn put(&mut self, act: Act, place: u16) -> Result<(), Refusal> {
         self.write(act, place)?;

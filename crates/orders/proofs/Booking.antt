@@ -1,8 +1,8 @@
 -- What the books of two states share. Assumes nothing.
-use Rattle.std.proofs.Common.{◌≡◌, ℕ, ◌≤◌, Bool, true, false, ltb, List, length, is_some, Some, None, Ok, Option, Result, refl, ap, arith, ltb-false}
+use Rattle.std.proofs.Common.{◌≡◌, ℕ, ◌≤◌, Bool, true, false, ltb, List, length, Some, None, Ok, Err, Option, Result, sym, refl, ap, arith, ltb-false}
 use Rattle.basics.specs.Checks.{refuse_if, or_else, unless, answer}
 use Rattle.basics.specs.declared.refusal.Refusal.{Refusal}
-use Rattle.basics.specs.declared.refusal.Reason.TheVariants.{TooLong, TemplateLoaded}
+use Rattle.basics.specs.declared.refusal.Reason.TheVariants.{TooLong}
 use Rattle.aliases.specs.Aliases.{Aliases}
 use Rattle.reading.specs.Readings as readings
 use Rattle.reading.specs.Readings.{Ending, ended, refused}
@@ -10,18 +10,10 @@ use Rattle.reading.specs.Listed.{template_reading}
 use Rattle.listing.specs.Laying.{ending}
 use Rattle.listing.specs.Listing.{unless_refused}
 use Rattle.listing.specs.Checking.{template_check, template_mask, masked_holes}
-use Rattle.orders.specs.declared.template.Template.{Template}
 use Rattle.orders.specs.Book.{Book}
-use Rattle.orders.specs.Holding.{loaded_in}
-use Rattle.orders.specs.declared.outcome.Outcome.TheVariants.{Accepted}
-use Rattle.orders.specs.Desk.{call_said, said_unless_refused}
 
 abbrev pub book : Option (List ℕ) → (ℕ → Option (List ℕ)) → Aliases → Book
 book l t a = record { aliases = a; loaded = l; texts = t }
-
--- where no template is loaded, the next check is heard
-pub free : (l : Bool) (t : Template) (x : Option Refusal) → l ≡ false → or_else (refuse_if (is_some (loaded_in l t)) TemplateLoaded 0) x ≡ x
-free l t x e = ap (λ (k : Bool). or_else (refuse_if (is_some (loaded_in k t)) TemplateLoaded 0) x) e
 
 -- a book changes as its aliases do
 pub by_aliases : (d : Option Refusal) (x y : Aliases) (l : Option (List ℕ)) (t : ℕ → Option (List ℕ)) → book l t (unless d x y) ≡ unless d (book l t x) (book l t y)
@@ -47,7 +39,12 @@ taken al t h p =
     let q = let_pass (template_check t) (ending (template_reading al t).ending (template_mask t)) h p in
     (omega (arith, ltb-false 1024 (length t) (not_long (ltb 1024 (length t)) _ q.0)), by_ending (template_reading al t).ending (template_mask t) h q.1)
 
--- what a call says, by its answer
-pub said_by : (x : Option Refusal) → call_said (answer x tt) ≡ said_unless_refused x Accepted
-said_by None = refl
-said_by (Some f) = refl
+-- a call's answer, where it has something else to say
+
+pub accepts : {Y : Type 0} (c : Option Refusal) (y : Y) (z : Unit {0}) → Ok z ≡ answer c tt → Ok y ≡ answer c y
+accepts None y z e = refl
+accepts (Some f) y z e = let n : ◌≡◌ {A = ℕ} 0 1 = cc in absurd (omega arith)
+
+pub refuses : {Y : Type 0} (c : Option Refusal) (y : Y) (f : Refusal) → Err f ≡ answer {X = Unit {0}} c tt → Err f ≡ answer c y
+refuses None y f e = let n : ◌≡◌ {A = ℕ} 0 1 = cc in absurd (omega arith)
+refuses (Some g) y f e = let k : g ≡ f = cc in ap Err (sym k)

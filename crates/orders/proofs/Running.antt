@@ -2,9 +2,8 @@
 use Rattle.std.proofs.Common.{◌≡◌, ℕ, zero, suc, ◌+◌, ◌<◌, ◌≤◌, List, [], ◌∷◌, ◌++◌, length, get_or, take, drop, set, sym, refl, ap, ◌∙◌, add-one}
 use Rattle.std.proofs.lemmas.List.{at_drop_more, at_drop_all, take-append-drop}
 use Rattle.orders.specs.declared.call.Call.{Call}
-use Rattle.orders.specs.declared.outcome.Outcome.{Outcome}
 use Rattle.orders.specs.Book.{Book, next, after}
-use Rattle.orders.specs.Desk.{Desk, said, desk_next, answers, desk_after, noted}
+use Rattle.orders.specs.Desk.{Desk, Outcome, said, desk_next, answers, desk_after, noted}
 use Rattle.orders.specs.Requests.{request_of, requests}
 
 none_noted : {X : Type 0} (xs : List X) → noted xs [] ≡ []

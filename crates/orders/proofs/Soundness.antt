@@ -1,9 +1,11 @@
 -- The book of any calls is sound. Assumes nothing.
 use Rattle.std.proofs.Common.{◌≡◌, ℕ, ◌+◌, ◌≤◌, Bool, true, false, cond, not, eqb, ltb, List, [], ◌∷◌, length, is_some, Some, None, Option, sym, refl, ap, ◌∙◌, subst, arith, ltb-false}
 use Rattle.std.proofs.lemmas.Bool.{eqb-true, eqb-false}
+use Rattle.std.specs.List.{position_from}
+use Rattle.std.proofs.lemmas.Iterator.Adapters.{position_from-zero}
 use Rattle.basics.specs.Bytes.{ZeroFree}
 use Rattle.basics.specs.Checks.{refuse_if, refuse_at, or_else, unless}
-use Rattle.basics.specs.Searches.{first_from, first_zero}
+use Rattle.basics.specs.Searches.{first_zero}
 use Rattle.basics.specs.declared.refusal.Refusal.{Refusal}
 use Rattle.basics.specs.declared.refusal.Reason.{Reason}
 use Rattle.basics.specs.declared.refusal.Reason.TheVariants.{TooLong, ZeroByte, NoSuchHole}
@@ -42,11 +44,11 @@ is_so false e = let z : ◌≡◌ {A = ℕ} 0 1 = cc in absurd (omega arith)
 
 -- no byte 0 is found
 
-zero_free_from : (k : ℕ) (text : List ℕ) → first_from (λ b. eqb b 0) k text ≡ None → ZeroFree text
+zero_free_from : (k : ℕ) (text : List ℕ) → position_from (λ b. eqb b 0) k text ≡ None → ZeroFree text
 zero_free_from k [] e = tt
 zero_free_from k (b ∷ text) e = by_byte (eqb b 0) refl (zero_free_from (k + 1) text) e
   where
-    by_byte : (t : Bool) → eqb b 0 ≡ t → (first_from (λ c. eqb c 0) (k + 1) text ≡ None → ZeroFree text) → cond t (Some k) (first_from (λ c. eqb c 0) (k + 1) text) ≡ None → ZeroFree (b ∷ text)
+    by_byte : (t : Bool) → eqb b 0 ≡ t → (position_from (λ c. eqb c 0) (k + 1) text ≡ None → ZeroFree text) → cond t (Some k) (position_from (λ c. eqb c 0) (k + 1) text) ≡ None → ZeroFree (b ∷ text)
     by_byte true h rest q = let z : ◌≡◌ {A = ℕ} 0 1 = cc in absurd (omega arith)
     by_byte false h rest q = (eqb-false b 0 h, rest q)
 
@@ -120,7 +122,7 @@ module _ (b : Book) (s : Sound b) where
       record {
         reads = s.reads;
         short = with_text (λ _ u. length u ≤ 128) d text (omega (arith, ltb-false 128 (length text) (passes (ltb 128 (length text)) TooLong 0 long.0))) s.short;
-        zero_free = with_text (λ _ u. ZeroFree u) d text (zero_free_from 0 text (passes_at (first_zero text) ZeroByte long.1)) s.zero_free;
+        zero_free = with_text (λ _ u. ZeroFree u) d text (zero_free_from 0 text (sym (position_from-zero (λ b. eqb b 0) text) ∙ passes_at (first_zero text) ZeroByte long.1)) s.zero_free;
         of_hole = with_text (λ n _. has_hole n (symbols b) ≡ true) d text (is_so (has_hole d (symbols b)) (passes (not (has_hole d (symbols b))) NoSuchHole 0 hole.0)) s.of_hole;
       }
 

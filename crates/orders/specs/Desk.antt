@@ -1,11 +1,12 @@
 -- What a call says, and what it leaves on the page and on the sheet; and the same of calls one after another. Assumes nothing.
-use Rattle.std.specs.Prelude.{ℕ, List, [], ◌∷◌, length, Some, None, Ok, Err, Option, Result}
-use Rattle.basics.specs.Checks.{unless}
+use Rattle.std.specs.Prelude.{◌≡◌, ℕ, List, [], ◌∷◌, length, Ok, Err, Result}
+use Rattle.basics.specs.Checks.{answer, unless}
 use Rattle.basics.specs.Pages.{over}
 use Rattle.basics.specs.declared.refusal.Refusal.{Refusal}
-use Rattle.listing.specs.Listing.{Held, listing}
-use Rattle.orders.specs.declared.outcome.Outcome.{Outcome}
-use Rattle.orders.specs.declared.outcome.Outcome.TheVariants.{Accepted, Rendered, Listed, Refused}
+use Rattle.listing.specs.Listing.{Held, held_of, SameSlots, listing}
+use Rattle.orders.specs.declared.desk.Desk.{Desk as Lent}
+use Rattle.orders.specs.declared.outcome.Done.{Done}
+use Rattle.orders.specs.declared.outcome.Done.TheVariants.{Accepted, Rendered, Listed}
 use Rattle.orders.specs.Book.{Book, Request, alias, unalias, load, unload, bind, render, list, alias_check, unalias_check, load_check, unload_check, bind_check, render_check, script_of, next}
 
 -- the page that renders go to, and the sheet that lists go to
@@ -16,28 +17,30 @@ pub record Desk : Type 0 where
 abbrev pub desk : List ℕ → Held → Desk
 desk page sheet = record { page = page; sheet = sheet }
 
--- a call's refusal, or what it says where it is accepted
-abbrev pub said_unless_refused : Option Refusal → Outcome → Outcome
-said_unless_refused None o = o
-said_unless_refused (Some f) o = Refused f
+abbrev pub desk_of : Lent → Desk
+desk_of d = desk d.page.now (held_of d.sheet.now)
 
--- what a call that has nothing to tell says
-abbrev pub call_said : Result (Unit {0}) Refusal → Outcome
-call_said (Ok x) = Accepted
-call_said (Err f) = Refused f
+-- the page, the sheet and its slots are still the same ones
+pub record SamePlaces (old new : Lent) : Type 0 where
+  pub page : new.page.ghost_name ≡ old.page.ghost_name
+  pub sheet : new.sheet.ghost_name ≡ old.sheet.ghost_name
+  pub slots : SameSlots old.sheet.now new.sheet.now
+
+abbrev pub Outcome : Type 0
+Outcome = Result Done Refusal
 
 abbrev pub list_said : Result ℕ Refusal → Outcome
-list_said (Ok n) = Listed n
-list_said (Err f) = Refused f
+list_said (Ok n) = Ok (Listed n)
+list_said (Err f) = Err f
 
 -- what a call says, by the book and by the forms of the order's quoter
 abbrev pub said : (List ℕ → List ℕ) → Book → Desk → Request → Outcome
-said form b k (alias name value) = said_unless_refused (alias_check b name value) Accepted
-said form b k (unalias name) = said_unless_refused (unalias_check b name) Accepted
-said form b k (load t) = said_unless_refused (load_check b t) Accepted
-said form b k unload = said_unless_refused (unload_check b) Accepted
-said form b k (bind d text) = said_unless_refused (bind_check b d text) Accepted
-said form b k render = said_unless_refused (render_check form b (length k.page)) (Rendered (length (script_of form b)))
+said form b k (alias name value) = answer (alias_check b name value) Accepted
+said form b k (unalias name) = answer (unalias_check b name) Accepted
+said form b k (load t) = answer (load_check b t) Accepted
+said form b k unload = answer (unload_check b) Accepted
+said form b k (bind d text) = answer (bind_check b d text) Accepted
+said form b k render = answer (render_check form b (length k.page)) (Rendered (length (script_of form b)))
 said form b k (list s) = list_said (listing b.aliases.named s k.sheet).said
 
 -- a render writes the script over the page's start, a list adds to the sheet, and no other call touches either

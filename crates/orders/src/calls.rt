@@ -1,8 +1,8 @@
 // The calls on what an order holds, each by the order's book. A refused call leaves all as it was.
-ghost use Rattle.std.specs.Prelude.{◌≡◌, false, is_ok};
-ghost use Rattle.basics.specs.Checks.{answer};
-ghost use Rattle.orders.specs.Book.{start, alias, unalias, load, unload, alias_check, unalias_check, load_check, unload_check, next};
+ghost use Rattle.std.specs.Prelude.{◌≡◌};
+ghost use Rattle.orders.specs.Book.{start, alias, unalias, load, unload, alias_check, unalias_check, load_check, unload_check};
 ghost use Rattle.orders.specs.Holding.{book_of};
+ghost use Rattle.orders.specs.Making.{MakesCall};
 
 use crate::contents::Contents;
 use crate::template::Template;
@@ -10,6 +10,7 @@ use crate::text::Text;
 use aliases::table::AliasTable;
 use basics::refusal::{Reason, Refusal};
 use listing::check::check_template;
+use std::array;
 
 impl Contents {
     // Without template, texts and aliases.
@@ -18,74 +19,46 @@ impl Contents {
     {
         Contents {
             aliases: AliasTable::new(),
-            loaded: false,
-            template: Template::empty(),
-            texts: [Text::empty(); 10],
+            template: None,
+            texts: array::from_fn(|_| Text::empty()),
             bound: 0,
         }
     }
 
     // Gives a name this value, whether or not it has one.
     pub fn alias(&mut self, name: &[u8], value: &[u8]) -> Result<(), Refusal>
-        ensures said { result ≡ answer (alias_check (book_of self.old) name.now value.now) tt }
-        ensures book { book_of self.new ≡ next (book_of self.old) (alias name.now value.now) }
-        ensures kept { is_ok result ≡ false → self.new ≡ self.old }
+        ensures { MakesCall book_of (alias_check (book_of self.old) name.now value.now) (alias name.now value.now) self.old self.new result }
     {
-        if self.loaded {
-            return Err(Refusal {
-                reason: Reason::TemplateLoaded,
-                place: 0,
-            });
-        }
+        self.none_loaded()?;
         self.aliases.define(name, value)
     }
 
     // Takes its value from a name.
     pub fn unalias(&mut self, name: &[u8]) -> Result<(), Refusal>
-        ensures said { result ≡ answer (unalias_check (book_of self.old) name.now) tt }
-        ensures book { book_of self.new ≡ next (book_of self.old) (unalias name.now) }
-        ensures kept { is_ok result ≡ false → self.new ≡ self.old }
+        ensures { MakesCall book_of (unalias_check (book_of self.old) name.now) (unalias name.now) self.old self.new result }
     {
-        if self.loaded {
-            return Err(Refusal {
-                reason: Reason::TemplateLoaded,
-                place: 0,
-            });
-        }
+        self.none_loaded()?;
         self.aliases.remove(name)
     }
 
     // Keeps a template that reads without fault under the aliases.
     pub fn load(&mut self, template: &[u8]) -> Result<(), Refusal>
-        ensures said { result ≡ answer (load_check (book_of self.old) template.now) tt }
-        ensures book { book_of self.new ≡ next (book_of self.old) (load template.now) }
-        ensures kept { is_ok result ≡ false → self.new ≡ self.old }
+        ensures { MakesCall book_of (load_check (book_of self.old) template.now) (load template.now) self.old self.new result }
     {
-        if self.loaded {
-            return Err(Refusal {
-                reason: Reason::TemplateLoaded,
-                place: 0,
-            });
-        }
+        self.none_loaded()?;
         let holes = check_template(template, &self.aliases)?;
-        self.template.keep(template, holes);
-        self.loaded = true;
+        self.template = Some(Template::keep(template, holes));
         Ok(())
     }
 
     // Drops the template and all texts.
     pub fn unload(&mut self) -> Result<(), Refusal>
-        ensures said { result ≡ answer (unload_check (book_of self.old)) tt }
-        ensures book { book_of self.new ≡ next (book_of self.old) unload }
-        ensures kept { is_ok result ≡ false → self.new ≡ self.old }
+        ensures { MakesCall book_of (unload_check (book_of self.old)) unload self.old self.new result }
     {
-        if !self.loaded {
-            return Err(Refusal {
-                reason: Reason::NoTemplate,
-                place: 0,
-            });
+        if self.template.is_none() {
+            return Err(Reason::NoTemplate.at(0));
         }
-        self.loaded = false;
+        self.template = None;
         self.bound = 0;
         Ok(())
     }

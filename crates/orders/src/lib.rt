@@ -4,7 +4,7 @@
 pub mod call;
 pub mod calls;
 pub mod contents;
-mod kept;
+pub mod desk;
 pub mod laws;
 pub mod lists;
 pub mod order;
@@ -16,35 +16,24 @@ pub mod text;
 #[cfg(test)]
 mod tests {
     use crate::call::Call;
+    use crate::desk::Desk;
     use crate::order::Order;
-    use crate::outcome::Outcome;
+    use crate::outcome::Done;
     use crate::run::replay;
-    use basics::refusal::{Reason, Refusal};
-    use listing::record::{Counts, Record, Sheet};
+    use basics::refusal::Reason;
+    use listing::list::NO_RECORD;
+    use listing::record::Sheet;
     use quoting::single::Single;
-
-    const NO_RECORD: Record = Record {
-        kind: 0,
-        code: 0,
-        depth: 0,
-        first: 0,
-        count: 0,
-        place: 0,
-    };
-
-    fn refused(reason: Reason, place: usize) -> Result<(), Refusal> {
-        Err(Refusal { reason, place })
-    }
 
     #[test]
     fn holds_one_template_at_a_time(rt: HostRuntime) {
         let mut order = Order::new(Single);
-        assert_eq!(rt; order.unload(), refused(Reason::NoTemplate, 0));
+        assert_eq!(rt; order.unload(), Err(Reason::NoTemplate.at(0)));
         assert!(rt; order.load(b"x=@{0} a $(b @{1})").is_ok());
-        assert_eq!(rt; order.load(b"a"), refused(Reason::TemplateLoaded, 0));
+        assert_eq!(rt; order.load(b"a"), Err(Reason::TemplateLoaded.at(0)));
         assert_eq!(rt;
             order.alias(b"ls", b"ls -l"),
-            refused(Reason::TemplateLoaded, 0)
+            Err(Reason::TemplateLoaded.at(0))
         );
         assert!(rt; order.unload().is_ok());
         assert!(rt; order.load(b"a").is_ok());
@@ -53,10 +42,10 @@ mod tests {
     #[test]
     fn reads_a_template_under_the_aliases(rt: HostRuntime) {
         let mut order = Order::new(Single);
-        assert_eq!(rt; order.load(b"@{0} a"), refused(Reason::HoleNotTaken, 0));
-        assert_eq!(rt; order.load(b"a @{x}"), refused(Reason::BadHole, 2));
+        assert_eq!(rt; order.load(b"@{0} a"), Err(Reason::HoleNotTaken.at(0)));
+        assert_eq!(rt; order.load(b"a @{x}"), Err(Reason::BadHole.at(2)));
         assert!(rt; order.alias(b"a", b"if").is_ok());
-        assert_eq!(rt; order.load(b"a b"), refused(Reason::OutOfPlace, 0));
+        assert_eq!(rt; order.load(b"a b"), Err(Reason::OutOfPlace.at(0)));
         assert!(rt; order.unalias(b"a").is_ok());
         assert!(rt; order.load(b"a b").is_ok());
     }
@@ -71,26 +60,17 @@ mod tests {
         ];
         let mut records = [NO_RECORD; 4];
         let mut letters = [0; 8];
-        let mut sheet = Sheet {
-            counts: Counts {
-                records: 0,
-                letters: 0,
-            },
-            records: &mut records,
-            letters: &mut letters,
-        };
         let mut page = [0; 1];
-        let mut outcomes = [Outcome::Accepted; 3];
-        let _ = replay(Single, &calls, &mut page, &mut sheet, &mut outcomes);
-        assert_eq!(rt; outcomes[0], Outcome::Accepted);
-        assert_eq!(rt;
-            outcomes[1],
-            Outcome::Refused(Refusal {
-                reason: Reason::NoSuchAlias,
-                place: 0,
-            })
-        );
-        assert_eq!(rt; outcomes[2], Outcome::Listed(2));
+        let mut sheet = Sheet::new(&mut records, &mut letters);
+        let mut desk = Desk {
+            page: &mut page,
+            sheet: &mut sheet,
+        };
+        let mut outcomes = [Ok(Done::Accepted); 3];
+        let _ = replay(Single, &calls, &mut desk, &mut outcomes);
+        assert_eq!(rt; outcomes[0], Ok(Done::Accepted));
+        assert_eq!(rt; outcomes[1], Err(Reason::NoSuchAlias.at(0)));
+        assert_eq!(rt; outcomes[2], Ok(Done::Listed(2)));
         assert_eq!(rt; sheet.counts.letters, 4);
     }
 }

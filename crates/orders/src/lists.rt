@@ -1,6 +1,5 @@
 // Lists of scripts, under an order's aliases.
-ghost use Rattle.std.specs.Prelude.{◌≡◌};
-ghost use Rattle.listing.specs.Listing.{left, held_of, listing};
+ghost use Rattle.listing.specs.Listing.{Lists};
 ghost use Rattle.orders.specs.Holding.{book_of};
 
 use crate::contents::Contents;
@@ -13,9 +12,7 @@ use quoting::quoter::Quoter;
 impl Contents {
     // Lists a script's items, under the aliases, behind the counts of a sheet, and tells how many records it added.
     pub fn list(&self, script: &[u8], sheet: &mut Sheet) -> Result<usize, Refusal>
-        ensures left { left result (held_of sheet.new) ≡ listing (book_of self.now).aliases.named script.now (held_of sheet.old) }
-        ensures records { sheet.new.records.ghost_name ≡ sheet.old.records.ghost_name }
-        ensures letters { sheet.new.letters.ghost_name ≡ sheet.old.letters.ghost_name }
+        ensures { Lists (book_of self.now).aliases.named script.now sheet.old sheet.new result }
     {
         list(script, &self.aliases, sheet)
     }
@@ -24,9 +21,7 @@ impl Contents {
 impl<Q: Quoter> Order<Q> {
     // The same of an order.
     pub fn list(&self, script: &[u8], sheet: &mut Sheet) -> Result<usize, Refusal>
-        ensures left { left result (held_of sheet.new) ≡ listing (book_of self.now.contents).aliases.named script.now (held_of sheet.old) }
-        ensures records { sheet.new.records.ghost_name ≡ sheet.old.records.ghost_name }
-        ensures letters { sheet.new.letters.ghost_name ≡ sheet.old.letters.ghost_name }
+        ensures { Lists (book_of self.now.contents).aliases.named script.now sheet.old sheet.new result }
     {
         self.contents.list(script, sheet)
     }

@@ -1,36 +1,15 @@
 // Calls made one after another on an order.
 ghost use Rattle.std.specs.Prelude.{◌≡◌, slice_set};
-ghost use Rattle.listing.specs.Listing.{held_of};
 ghost use Rattle.orders.specs.Book.{start, next, after, book_of_calls};
 ghost use Rattle.orders.specs.Holding.{book_of};
-ghost use Rattle.orders.specs.Desk.{desk, call_said, list_said, said, desk_next, answers, desk_after, noted};
+ghost use Rattle.orders.specs.Desk.{desk_of, SamePlaces, said, desk_next, answers, desk_after, noted};
 ghost use Rattle.orders.specs.Requests.{request_of, requests};
 
 use crate::call::Call;
+use crate::desk::Desk;
 use crate::order::Order;
-use crate::outcome::Outcome;
-use basics::refusal::Refusal;
-use listing::record::Sheet;
+use crate::outcome::{Done, Outcome};
 use quoting::quoter::Quoter;
-
-// What a call that has nothing to tell says.
-fn accepted(answer: Result<(), Refusal>) -> Outcome
-    ensures { result ≡ call_said answer }
-{
-    match answer {
-        Ok(_) => Outcome::Accepted,
-        Err(e) => Outcome::Refused(e),
-    }
-}
-
-fn listed(answer: Result<usize, Refusal>) -> Outcome
-    ensures { result ≡ list_said answer }
-{
-    match answer {
-        Ok(n) => Outcome::Listed(n),
-        Err(e) => Outcome::Refused(e),
-    }
-}
 
 // Puts an outcome into the slot of its number, if there is one.
 fn note(outcomes: &mut [Outcome], i: usize, outcome: Outcome)
@@ -43,45 +22,34 @@ fn note(outcomes: &mut [Outcome], i: usize, outcome: Outcome)
 
 impl<Q: Quoter> Order<Q> {
     // Makes a call: renders go to the page, and lists to the sheet.
-    pub fn make(&mut self, call: &Call, page: &mut [u8], sheet: &mut Sheet) -> Outcome
-        ensures said { result ≡ said (Q.Quoter.form self.old.quoter) (book_of self.old.contents) (desk page.old (held_of sheet.old)) (request_of call.now) }
+    pub fn make(&mut self, call: &Call, desk: &mut Desk) -> Outcome
+        ensures said { result ≡ said (Q.Quoter.form self.old.quoter) (book_of self.old.contents) (desk_of desk.old) (request_of call.now) }
         ensures book { book_of self.new.contents ≡ next (book_of self.old.contents) (request_of call.now) }
-        ensures desk { desk page.new (held_of sheet.new) ≡ desk_next (Q.Quoter.form self.old.quoter) (book_of self.old.contents) (desk page.old (held_of sheet.old)) (request_of call.now) }
+        ensures desk { desk_of desk.new ≡ desk_next (Q.Quoter.form self.old.quoter) (book_of self.old.contents) (desk_of desk.old) (request_of call.now) }
         ensures quoter { self.new.quoter ≡ self.old.quoter }
-        ensures records { sheet.new.records.ghost_name ≡ sheet.old.records.ghost_name }
-        ensures letters { sheet.new.letters.ghost_name ≡ sheet.old.letters.ghost_name }
+        ensures places { SamePlaces desk.old desk.new }
     {
         match call {
-            Call::Alias(alias, value) => accepted(self.alias(alias, value)),
-            Call::Unalias(alias) => accepted(self.unalias(alias)),
-            Call::Load(template) => accepted(self.load(template)),
-            Call::Unload => accepted(self.unload()),
-            Call::List(script) => listed(self.list(script, sheet)),
+            Call::Alias(name, value) => self.alias(name, value)?,
+            Call::Unalias(name) => self.unalias(name)?,
+            Call::Load(template) => self.load(template)?,
+            Call::Unload => self.unload()?,
+            Call::List(script) => return Ok(Done::Listed(self.list(script, desk.sheet)?)),
         }
+        Ok(Done::Accepted)
     }
-}
 
-impl<Q: Quoter> Order<Q> {
     // Makes calls one after another. What each says goes into the slot of its number, as far as there are slots.
-    pub fn run(
-        &mut self,
-        calls: &[Call],
-        page: &mut [u8],
-        sheet: &mut Sheet,
-        outcomes: &mut [Outcome],
-    )
-        ensures said { outcomes.new ≡ noted (answers (Q.Quoter.form self.old.quoter) (book_of self.old.contents) (desk page.old (held_of sheet.old)) (requests calls.now)) outcomes.old }
+    pub fn run(&mut self, calls: &[Call], desk: &mut Desk, outcomes: &mut [Outcome])
+        ensures said { outcomes.new ≡ noted (answers (Q.Quoter.form self.old.quoter) (book_of self.old.contents) (desk_of desk.old) (requests calls.now)) outcomes.old }
         ensures book { book_of self.new.contents ≡ after (book_of self.old.contents) (requests calls.now) }
-        ensures desk { desk page.new (held_of sheet.new) ≡ desk_after (Q.Quoter.form self.old.quoter) (book_of self.old.contents) (desk page.old (held_of sheet.old)) (requests calls.now) }
+        ensures desk { desk_of desk.new ≡ desk_after (Q.Quoter.form self.old.quoter) (book_of self.old.contents) (desk_of desk.old) (requests calls.now) }
         ensures quoter { self.new.quoter ≡ self.old.quoter }
-        ensures records { sheet.new.records.ghost_name ≡ sheet.old.records.ghost_name }
-        ensures letters { sheet.new.letters.ghost_name ≡ sheet.old.letters.ghost_name }
+        ensures places { SamePlaces desk.old desk.new }
     {
-        let mut i = 0;
-        while i < calls.len() {
-            let outcome = self.make(&calls[i], page, sheet);
+        for (i, call) in calls.iter().enumerate() {
+            let outcome = self.make(call, desk);
             note(outcomes, i, outcome);
-            i += 1;
         }
     }
 }
@@ -91,18 +59,16 @@ impl<Q: Quoter> Order<Q> {
 pub fn replay<Q: Quoter>(
     quoter: Q,
     calls: &[Call],
-    page: &mut [u8],
-    sheet: &mut Sheet,
+    desk: &mut Desk,
     outcomes: &mut [Outcome],
 ) -> Order<Q>
-    ensures said { outcomes.new ≡ noted (answers (Q.Quoter.form quoter) start (desk page.old (held_of sheet.old)) (requests calls.now)) outcomes.old }
+    ensures said { outcomes.new ≡ noted (answers (Q.Quoter.form quoter) start (desk_of desk.old) (requests calls.now)) outcomes.old }
     ensures book { book_of result.contents ≡ book_of_calls (requests calls.now) }
-    ensures desk { desk page.new (held_of sheet.new) ≡ desk_after (Q.Quoter.form quoter) start (desk page.old (held_of sheet.old)) (requests calls.now) }
+    ensures desk { desk_of desk.new ≡ desk_after (Q.Quoter.form quoter) start (desk_of desk.old) (requests calls.now) }
     ensures quoter { result.quoter ≡ quoter }
-    ensures records { sheet.new.records.ghost_name ≡ sheet.old.records.ghost_name }
-    ensures letters { sheet.new.letters.ghost_name ≡ sheet.old.letters.ghost_name }
+    ensures places { SamePlaces desk.old desk.new }
 {
     let mut order = Order::new(quoter);
-    order.run(calls, page, sheet, outcomes);
+    order.run(calls, desk, outcomes);
     order
 }

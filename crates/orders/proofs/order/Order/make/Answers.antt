@@ -1,54 +1,46 @@
-use Rattle.std.proofs.Common.{sym, refl, ap, ◌∙◌}
-use Rattle.listing.specs.Listing.{Left, held_of}
+use Rattle.std.proofs.Common.{sym, ap, ◌∙◌}
+use Rattle.std.proofs.lemmas.Result.{err_from_is_err_and}
+use Rattle.listing.specs.Listing.{Left}
 use Rattle.orders.specs.declared.call.Call.{Call}
-use Rattle.orders.specs.Book.{alias_check, load_check, next}
+use Rattle.orders.specs.declared.outcome.Done.TheVariants.{Accepted}
+use Rattle.orders.specs.Book.{load_check, next}
 use Rattle.orders.specs.Holding.{book_of}
-use Rattle.orders.specs.Desk.{desk, call_said, list_said, said, desk_next}
+use Rattle.orders.specs.Desk.{desk, desk_of, list_said, said, desk_next}
 use Rattle.orders.specs.Requests.{request_of}
-use Rattle.orders.proofs.Booking.{said_by}
+use Rattle.orders.proofs.Booking.{accepts, refuses}
 use Rattle.orders.proofs.order.Order.make.Goals as goal
 
-pub returns-in-Alias : goal.returns-in-Alias
-returns-in-Alias g c =
-    let form = g.Q.Quoter.form c.args.self.now.quoter in
-    let b = book_of c.args.self.now.contents in
-    let k = desk c.args.page.now (held_of c.args.sheet.now) in
-    let e = sym c.in-Alias.is in
-    record {
-      said = c.accepted.ensures ∙ ap call_said c.alias.ensures.said ∙ said_by (alias_check b c.in-Alias.alias.now c.in-Alias.value.now) ∙ ap (λ (q : Call). said form b k (request_of q)) e;
-      book = c.alias.ensures.book ∙ ap (λ (q : Call). next b (request_of q)) e;
-      desk = ap (λ (q : Call). desk_next form b k (request_of q)) e;
-      quoter = c.alias.ensures.quoter;
-      records = refl;
-      letters = refl;
-    }
+pub returns-in_ok-load-in-Load-clause-said : goal.returns-in_ok-load-in-Load-clause-said
+returns-in_ok-load-in-Load-clause-said g c =
+    accepts (load_check (book_of c.args.self.now.contents) c.in-Load.template.now) Accepted _ c.in_ok-load-in-Load.ensures.call.said
+    ∙ ap (λ (q : Call). said (g.Q.Quoter.form c.args.self.now.quoter) (book_of c.args.self.now.contents) (desk_of c.args.desk.now) (request_of q)) (sym c.in-Load.is)
 
-pub returns-in-Load : goal.returns-in-Load
-returns-in-Load g c =
-    let form = g.Q.Quoter.form c.args.self.now.quoter in
-    let b = book_of c.args.self.now.contents in
-    let k = desk c.args.page.now (held_of c.args.sheet.now) in
-    let e = sym c.in-Load.is in
-    record {
-      said = c.accepted-in-Load.ensures ∙ ap call_said c.load.ensures.said ∙ said_by (load_check b c.in-Load.template.now) ∙ ap (λ (q : Call). said form b k (request_of q)) e;
-      book = c.load.ensures.book ∙ ap (λ (q : Call). next b (request_of q)) e;
-      desk = ap (λ (q : Call). desk_next form b k (request_of q)) e;
-      quoter = c.load.ensures.quoter;
-      records = refl;
-      letters = refl;
-    }
+pub returns-in_ok-load-in-Load-clause-book : goal.returns-in_ok-load-in-Load-clause-book
+returns-in_ok-load-in-Load-clause-book g c = c.load.ensures.call.book ∙ ap (λ (q : Call). next (book_of c.args.self.now.contents) (request_of q)) (sym c.in-Load.is)
 
-pub returns-in-List : goal.returns-in-List
-returns-in-List g c =
-    let form = g.Q.Quoter.form c.args.self.now.quoter in
-    let b = book_of c.args.self.now.contents in
-    let k = desk c.args.page.now (held_of c.args.sheet.now) in
-    let e = sym c.in-List.is in
-    record {
-      said = c.listed.ensures ∙ ap (λ (x : Left). list_said x.said) c.list.ensures.left ∙ ap (λ (q : Call). said form b k (request_of q)) e;
-      book = ap (λ (q : Call). next b (request_of q)) e;
-      desk = ap (λ (x : Left). desk c.args.page.now x.sheet) c.list.ensures.left ∙ ap (λ (q : Call). desk_next form b k (request_of q)) e;
-      quoter = refl;
-      records = c.list.ensures.records;
-      letters = c.list.ensures.letters;
-    }
+pub returns-in_err-load-in-Load-clause-said : goal.returns-in_err-load-in-Load-clause-said
+returns-in_err-load-in-Load-clause-said g c =
+    let p = err_from_is_err_and c.from_residual-in_err-load-in-Load.result c.from_residual-in_err-load-in-Load.ensures.1 in
+    rw (p.1, p.2) (
+    refuses (load_check (book_of c.args.self.now.contents) c.in-Load.template.now) Accepted _ c.in_err-load-in-Load.ensures.call.said
+    ∙ ap (λ (q : Call). said (g.Q.Quoter.form c.args.self.now.quoter) (book_of c.args.self.now.contents) (desk_of c.args.desk.now) (request_of q)) (sym c.in-Load.is))
+
+pub returns-in_err-load-in-Load-clause-book : goal.returns-in_err-load-in-Load-clause-book
+returns-in_err-load-in-Load-clause-book g c = c.load.ensures.call.book ∙ ap (λ (q : Call). next (book_of c.args.self.now.contents) (request_of q)) (sym c.in-Load.is)
+
+pub returns-in-List-clause-said : goal.returns-in-List-clause-said
+returns-in-List-clause-said g c =
+    ap (λ (x : Left). list_said x.said) c.in_ok-list-in-List.ensures.left ∙ ap (λ (q : Call). said (g.Q.Quoter.form c.args.self.now.quoter) (book_of c.args.self.now.contents) (desk_of c.args.desk.now) (request_of q)) (sym c.in-List.is)
+
+pub returns-in-List-clause-desk : goal.returns-in-List-clause-desk
+returns-in-List-clause-desk g c =
+    ap (λ (x : Left). desk c.args.desk.now.page.now x.sheet) c.list.ensures.left ∙ ap (λ (q : Call). desk_next (g.Q.Quoter.form c.args.self.now.quoter) (book_of c.args.self.now.contents) (desk_of c.args.desk.now) (request_of q)) (sym c.in-List.is)
+
+pub returns-in_err-list-in-List-clause-said : goal.returns-in_err-list-in-List-clause-said
+returns-in_err-list-in-List-clause-said g c =
+    let p = err_from_is_err_and c.from_residual-in_err-list-in-List.result c.from_residual-in_err-list-in-List.ensures.1 in
+    rw (p.1, p.2) (ap (λ (x : Left). list_said x.said) c.in_err-list-in-List.ensures.left ∙ ap (λ (q : Call). said (g.Q.Quoter.form c.args.self.now.quoter) (book_of c.args.self.now.contents) (desk_of c.args.desk.now) (request_of q)) (sym c.in-List.is))
+
+pub returns-in_err-list-in-List-clause-desk : goal.returns-in_err-list-in-List-clause-desk
+returns-in_err-list-in-List-clause-desk g c =
+    ap (λ (x : Left). desk c.args.desk.now.page.now x.sheet) c.list.ensures.left ∙ ap (λ (q : Call). desk_next (g.Q.Quoter.form c.args.self.now.quoter) (book_of c.args.self.now.contents) (desk_of c.args.desk.now) (request_of q)) (sym c.in-List.is)
