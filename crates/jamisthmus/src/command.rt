@@ -1,21 +1,31 @@
 // What the program is asked to do.
 use aliases::table::AliasTable;
-use anyhow::anyhow;
+use anyhow::{anyhow, bail, ensure};
 use basics::refusal::Reason;
 use journal::style::Style;
-use std::alloc::Global;
 use std::env;
 
-pub const HELP: &str =
+// What the program is, the commands that quote, and what holds of these: the help in its parts. With all of it come the
+// commands that read scripts, templates and journals.
+pub const ABOUT: &str =
     "jamisthmus quotes texts for a shell, so that no text is read as anything but one word.
 
-  jamisthmus quote [single|backslash] [--explain]
+";
+
+pub const ABOUT_ALL: &str =
+    "jamisthmus quotes texts for a shell, so that no text is read as anything but one word, and lists what a shell reads.
+
+";
+
+pub const QUOTING: &str = "  jamisthmus quote [single|backslash] [--explain]
       the form of standard input, in single quotes unless backslash is asked for
       printf '%s' \"it's\" | jamisthmus quote           gives 'it'\\''s'
   jamisthmus unquote [--explain]
       the text of a form, or the place of its first unlawful byte
       printf '%s' \"'a b'\" | jamisthmus unquote        gives a b
-  jamisthmus help
+";
+
+pub const REST: &str = "  jamisthmus help
       this text
 
 Input is taken to the last byte, and nothing is added to the output, so that unquote gives back what quote took.
@@ -23,17 +33,7 @@ Input is taken to the last byte, and nothing is added to the output, so that unq
 nothing is written then, and the status is 1.
 ";
 
-// With the commands that read scripts, templates and journals.
-pub const HELP_ALL: &str =
-    "jamisthmus quotes texts for a shell, so that no text is read as anything but one word, and lists what a shell reads.
-
-  jamisthmus quote [single|backslash] [--explain]
-      the form of standard input, in single quotes unless backslash is asked for
-      printf '%s' \"it's\" | jamisthmus quote           gives 'it'\\''s'
-  jamisthmus unquote [--explain]
-      the text of a form, or the place of its first unlawful byte
-      printf '%s' \"'a b'\" | jamisthmus unquote        gives a b
-  jamisthmus list [--alias NAME=VALUE]... [--json] [FILE]
+pub const REST_ALL: &str = "  jamisthmus list [--alias NAME=VALUE]... [--json] [FILE]
       the items of a script: words and operators, one a line, or one JSON object a line
       echo 'cat <in >out' | jamisthmus list
   jamisthmus check [--alias NAME=VALUE]... [--json] [FILE]
@@ -78,26 +78,27 @@ fn parse_quote(words: env::Args) -> anyhow::Result<Command> {
     let mut explain = false;
     for word in words {
         match word.as_str() {
-            "single" => style = Style::Single,
-            "backslash" => style = Style::Backslash,
             "--explain" => explain = true,
-            _ => return Err(anyhow!(
-                "quote takes single or backslash, and --explain; the text comes on standard input"
-            )),
+            name => style = style_of(name)?,
         }
     }
     Ok(Command::Quote { style, explain })
 }
 
+fn style_of(name: &str) -> anyhow::Result<Style> {
+    name.parse().map_err(|_| {
+        anyhow!("quote takes single or backslash, and --explain; the text comes on standard input")
+    })
+}
+
 fn parse_unquote(words: env::Args) -> anyhow::Result<Command> {
     let mut explain = false;
     for word in words {
-        match word.as_str() {
-            "--explain" => explain = true,
-            _ => return Err(anyhow!(
-                "unquote takes only --explain; the form comes on standard input"
-            )),
-        }
+        ensure!(
+            word.as_str() == "--explain",
+            "unquote takes only --explain; the form comes on standard input"
+        );
+        explain = true;
     }
     Ok(Command::Unquote { explain })
 }
@@ -112,57 +113,50 @@ fn alias_rule(reason: Reason) -> &'static str {
 }
 
 // An alias as it is given on the command line.
-fn define(heap: Global, aliases: &mut AliasTable, given: &str) -> anyhow::Result<()> {
-    let Some((name, value)) = given.split_once('=') else {
-        return Err(anyhow!(format!(in heap; "write --alias NAME=VALUE, not --alias {given}")?));
-    };
-    match aliases.define(name.as_bytes(), value.as_bytes()) {
-        Ok(()) => Ok(()),
-        Err(refusal) => {
+fn define(aliases: &mut AliasTable, given: &str) -> anyhow::Result<()> {
+    let (name, value) = given.split_once('=').ok_or_else(|| anyhow!(
+        "write --alias NAME=VALUE, not --alias {given}"
+    ))?;
+    aliases
+        .define(name.as_bytes(), value.as_bytes())
+        .map_err(|refusal| {
             let rule = alias_rule(refusal.reason);
-            Err(anyhow!(format!(in heap; "--alias refused {refusal}: {rule}: {given}")?))
-        }
-    }
+            anyhow!("--alias refused {refusal}: {rule}: {given}")
+        })
 }
 
 // The words after list and check: aliases, --json, and a file.
-fn parse_text(heap: Global, words: env::Args) -> anyhow::Result<Text> {
+fn parse_text(mut words: env::Args) -> anyhow::Result<Text> {
     let mut text = Text {
         aliases: AliasTable::new(),
         file: None,
         json: false,
     };
-    let mut alias_next = false;
-    for word in words {
-        if alias_next {
-            define(heap, &mut text.aliases, word.as_str())?;
-            alias_next = false;
-        } else if word.as_str() == "--alias" {
-            alias_next = true;
-        } else if word.as_str() == "--json" {
-            text.json = true;
-        } else if word.as_str().starts_with('-') || text.file.is_some() {
-            return Err(anyhow!(format!(in heap;
-                "give --alias NAME=VALUE, --json or one file, not {word}"
-            )?));
-        } else {
-            text.file = Some(word);
+    while let Some(word) = words.next() {
+        match word.as_str() {
+            "--alias" => {
+                let Some(given) = words.next() else {
+                    bail!("write NAME=VALUE after --alias");
+                };
+                define(&mut text.aliases, given.as_str())?;
+            }
+            "--json" => text.json = true,
+            option if option.starts_with('-') || text.file.is_some() => {
+                bail!("give --alias NAME=VALUE, --json or one file, not {option}");
+            }
+            _ => text.file = Some(word),
         }
-    }
-    if alias_next {
-        return Err(anyhow!("write NAME=VALUE after --alias"));
     }
     Ok(text)
 }
 
 fn parse_replay(mut words: env::Args) -> anyhow::Result<Command> {
     let file = words.next();
-    match words.next() {
-        None => Ok(Command::Replay(file)),
-        Some(_) => Err(anyhow!(
-            "replay takes one journal: name its file, or give it on standard input"
-        )),
-    }
+    ensure!(
+        words.next().is_none(),
+        "replay takes one journal: name its file, or give it on standard input"
+    );
+    Ok(Command::Replay(file))
 }
 
 // Behind help, one word asks for all of it.
@@ -175,7 +169,7 @@ fn parse_help(mut words: env::Args) -> Command {
 
 pub fn parse(rt: &HostRuntime) -> anyhow::Result<Command> {
     let Ok(mut words) = env::args(rt) else {
-        return Err(anyhow!("write the command line in UTF-8"));
+        bail!("write the command line in UTF-8");
     };
     words.next();
     let Some(name) = words.next() else {
@@ -184,11 +178,11 @@ pub fn parse(rt: &HostRuntime) -> anyhow::Result<Command> {
     match name.as_str() {
         "quote" => parse_quote(words),
         "unquote" => parse_unquote(words),
-        "list" => Ok(Command::List(parse_text(rt.alloc(), words)?)),
-        "check" => Ok(Command::Check(parse_text(rt.alloc(), words)?)),
+        "list" => parse_text(words).map(Command::List),
+        "check" => parse_text(words).map(Command::Check),
         "replay" => parse_replay(words),
         "help" => Ok(parse_help(words)),
         "--help" | "-h" => Ok(Command::Help),
-        _ => Err(anyhow!("no such command: run jamisthmus help for the commands")),
+        _ => bail!("no such command: run jamisthmus help for the commands"),
     }
 }

@@ -15,10 +15,5 @@ pub fn read_text(rt: &HostRuntime, file: &Option<String>) -> anyhow::Result<Vec<
     let Some(path) = file else {
         return read_input(rt);
     };
-    match fs::read(rt, path.as_str()) {
-        Ok(text) => Ok(text),
-        Err(e) => Err(anyhow!(format!(in rt.alloc();
-            "name a file that can be read ({e}): {path}"
-        )?)),
-    }
+    fs::read(rt, path.as_str()).map_err(|e| anyhow!("name a file that can be read ({e}): {path}"))
 }

@@ -10,7 +10,7 @@ mod replay;
 mod runs;
 mod sheets;
 
-use command::{Command, HELP, HELP_ALL};
+use command::{ABOUT, ABOUT_ALL, Command, QUOTING, REST, REST_ALL};
 use quoting_commands::{quote, unquote};
 use reading_commands::{check, list};
 use replay::replay;
@@ -18,8 +18,8 @@ use std::process::ExitCode;
 
 fn run(rt: &HostRuntime) -> anyhow::Result<()> {
     match command::parse(rt)? {
-        Command::Help => rt.print(HELP)?,
-        Command::HelpAll => rt.print(HELP_ALL)?,
+        Command::Help => print!(rt; "{ABOUT}{QUOTING}{REST}")?,
+        Command::HelpAll => print!(rt; "{ABOUT_ALL}{QUOTING}{REST_ALL}")?,
         Command::Quote { style, explain } => quote(rt, style, explain)?,
         Command::Unquote { explain } => unquote(rt, explain)?,
         Command::List(text) => list(rt, &text)?,

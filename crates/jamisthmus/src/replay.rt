@@ -5,11 +5,10 @@ use anyhow::anyhow;
 use journal::call::Call;
 use journal::fault::Fault;
 use journal::parse::parse_line;
-use journal::slices::{behind, up_to};
 use journal::style::Style;
 use quoting::backslash::Backslash;
 use quoting::single::Single;
-use std::alloc::Global;
+use std::alloc::{AllocError, Global};
 use std::fmt::Write;
 
 // The calls of a journal up to the first line that cannot be taken, and what is wrong with that line.
@@ -20,20 +19,19 @@ struct Journal {
 }
 
 impl Journal {
-    fn read(heap: Global, text: &str) -> anyhow::Result<Journal> {
+    fn read(heap: Global, text: &str) -> Journal {
         let mut journal = Journal {
             calls: Vec::new(heap),
             fault: None,
         };
-        let mut number = 0usize;
-        for line in text.lines() {
-            number = number.saturating_add(1);
+        for (i, line) in text.lines().enumerate() {
             if let Err(fault) = journal.take_line(heap, line) {
-                journal.fault = Some(anyhow!(format!(in heap; "journal line {number}: {fault}")?));
+                let number = i.saturating_add(1);
+                journal.fault = Some(anyhow!("journal line {number}: {fault}"));
                 break;
             }
         }
-        Ok(journal)
+        journal
     }
 
     // A call is made on the order before it.
@@ -41,7 +39,7 @@ impl Journal {
         let Some(call) = parse_line(heap, line)? else {
             return Ok(());
         };
-        if self.calls.is_empty() && !is_order(&call) {
+        if self.calls.is_empty() && !matches!(call, Call::Order(_)) {
             return Err(Fault::NoOrder);
         }
         self.calls.push(call)?;
@@ -49,42 +47,25 @@ impl Journal {
     }
 }
 
-fn is_order(call: &Call) -> bool {
-    match call {
-        Call::Order(_) => true,
-        _ => false,
-    }
-}
-
-// How many of the calls come before the next order.
-fn before_order(calls: &[Call]) -> usize {
-    for (i, call) in calls.iter().enumerate() {
-        if is_order(call) {
-            return i;
-        }
-    }
-    calls.len()
-}
-
-// Makes an order of each style, and the calls that follow it.
+// Makes an order of this style, and the calls that follow it.
 fn answer_order(
     heap: Global,
     style: Style,
     calls: &[Call],
     answers: &mut String,
-) -> anyhow::Result<()> {
+) -> Result<(), AllocError> {
     writeln!(answers, "order: made {style}")?;
+    // Stays: a match from a style to its quoter, as where a text is quoted.
     match style {
         Style::Single => make_calls(heap, Single, calls, answers),
         Style::Backslash => make_calls(heap, Backslash, calls, answers),
     }
 }
 
-fn answer_all(heap: Global, calls: &[Call], answers: &mut String) -> anyhow::Result<()> {
-    for (i, call) in calls.iter().enumerate() {
-        if let Call::Order(style) = call {
-            let rest = behind(calls, i.saturating_add(1));
-            answer_order(heap, *style, up_to(rest, before_order(rest)), answers)?;
+fn answer_all(heap: Global, calls: &[Call], answers: &mut String) -> Result<(), AllocError> {
+    for order in calls.chunk_by(|_, next| !matches!(next, Call::Order(_))) {
+        if let [Call::Order(style), calls @ ..] = order {
+            answer_order(heap, *style, calls, answers)?;
         }
     }
     Ok(())
@@ -95,14 +76,10 @@ fn answer_all(heap: Global, calls: &[Call], answers: &mut String) -> anyhow::Res
 pub fn replay(rt: &HostRuntime, file: &Option<String>) -> anyhow::Result<()> {
     let bytes = read_text(rt, file)?;
     let text = String::from_utf8_lossy(rt.alloc(), bytes.as_slice())?;
-    let journal = Journal::read(rt.alloc(), text.as_str())?;
+    let Journal { calls, fault } = Journal::read(rt.alloc(), text.as_str());
     let mut answers = String::new(rt.alloc());
-    let Journal { calls, fault } = journal;
     let done = answer_all(rt.alloc(), calls.as_slice(), &mut answers);
     rt.print(answers.as_str())?;
     done?;
-    match fault {
-        Some(e) => Err(e),
-        None => Ok(()),
-    }
+    fault.map_or(Ok(()), Err)
 }

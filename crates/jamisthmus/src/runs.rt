@@ -1,28 +1,16 @@
 // Calls of a journal, made on an order in runs. A run ends with a list, which wants a sheet of its own size.
-use crate::sheets::{MOST_LETTERS, MOST_RECORDS};
-use journal::answers::{Outcome as Answer, Records};
+use crate::sheets::{cut, new_slots};
+use journal::answers::{Answer, Records};
 use journal::call::Call;
 use journal::listed::Listed;
-use journal::slices::{behind, up_to};
-use listing::list::NO_RECORD;
-use listing::record::{Counts, Record, Sheet};
+use listing::record::Sheet;
 use orders::call::Call as OrderCall;
+use orders::desk::Desk;
 use orders::order::Order;
-use orders::outcome::Outcome;
-use orders::run::replay;
+use orders::outcome::{Done, Outcome};
 use quoting::quoter::Quoter;
 use std::alloc::{AllocError, Global};
 use std::fmt::Write;
-
-// How many of the calls go into the next run.
-fn run_length(calls: &[Call]) -> usize {
-    for (i, call) in calls.iter().enumerate() {
-        if let Call::List { .. } = call {
-            return i.saturating_add(1);
-        }
-    }
-    calls.len()
-}
 
 // What is called on an order; making one is no such call.
 fn order_call(call: &Call) -> Option<OrderCall<'_>> {
@@ -36,140 +24,65 @@ fn order_call(call: &Call) -> Option<OrderCall<'_>> {
     }
 }
 
-fn name_of(call: &Call) -> &'static str {
-    match call {
-        Call::Order(_) => "order",
-        Call::Alias { .. } => "alias",
-        Call::Unalias { .. } => "unalias",
-        Call::Load { .. } => "load",
-        Call::Unload => "unload",
-        Call::List { .. } => "list",
-    }
-}
-
-// The slots that the run's list asks for, or as many as a list can use.
-fn slots_for(calls: &[Call]) -> Counts {
-    match calls.last() {
-        Some(
-            Call::List {
-                records,
-                letters,
-                ..
-            },
-        ) => Counts {
-            records: (*records).min(MOST_RECORDS),
-            letters: (*letters).min(MOST_LETTERS),
-        },
-        _ => Counts {
-            records: 0,
-            letters: 0,
-        },
-    }
-}
-
 // What a run of calls is made with, and what it leaves.
+// Stays: calls and outcomes lie side by side, since the library takes them as two slices.
 #[derive(Drop)]
 struct Run<'a> {
     calls: &'a [Call],
     made: Vec<OrderCall<'a>>,
     outcomes: Vec<Outcome>,
-    records: Vec<Record>,
-    letters: Vec<u16>,
+    listed: Listed,
 }
 
 impl<'a> Run<'a> {
-    // The first run of the calls.
-    fn first(heap: Global, calls: &'a [Call]) -> Result<Run<'a>, AllocError> {
-        let calls = up_to(calls, run_length(calls));
-        let slots = slots_for(calls);
-        let mut made = Vec::new(heap);
-        for call in calls {
-            if let Some(call) = order_call(call) {
-                made.push(call)?;
-            }
-        }
+    // With the slots that the run's list asks for.
+    fn new(heap: Global, calls: &'a [Call]) -> Result<Run<'a>, AllocError> {
+        let (records, letters) = match calls.last() {
+            Some(
+                Call::List {
+                    records,
+                    letters,
+                    ..
+                },
+            ) => (*records, *letters),
+            _ => (0, 0),
+        };
         Ok(Run {
             calls,
-            made,
-            outcomes: vec![in heap; Outcome::Accepted; calls.len()]?,
-            records: vec![in heap; NO_RECORD; slots.records]?,
-            letters: vec![in heap; 0u16; slots.letters]?,
+            made: calls.iter().filter_map(order_call).collect(heap)?,
+            outcomes: vec![in heap; Ok(Done::Accepted); calls.len()]?,
+            listed: new_slots(heap, records, letters)?,
         })
     }
 
-    // Makes the calls on a new order.
-    fn begin<Q: Quoter>(&mut self, quoter: Q) -> Order<Q> {
-        let mut sheet = Sheet {
-            counts: Counts {
-                records: 0,
-                letters: 0,
-            },
-            records: self.records.as_mut_slice(),
-            letters: self.letters.as_mut_slice(),
-        };
-        let order = replay(
-            quoter,
-            self.made.as_slice(),
-            &mut [],
-            &mut sheet,
-            self.outcomes.as_mut_slice(),
+    fn make<Q: Quoter>(&mut self, order: &mut Order<Q>) {
+        let mut sheet = Sheet::new(
+            self.listed.records.as_mut_slice(),
+            self.listed.letters.as_mut_slice(),
         );
-        let used = sheet.counts;
-        self.cut(used);
-        order
-    }
-
-    // Makes the calls on an order.
-    fn go_on<Q: Quoter>(&mut self, order: &mut Order<Q>) {
-        let mut sheet = Sheet {
-            counts: Counts {
-                records: 0,
-                letters: 0,
-            },
-            records: self.records.as_mut_slice(),
-            letters: self.letters.as_mut_slice(),
+        let mut desk = Desk {
+            page: &mut [],
+            sheet: &mut sheet,
         };
         order.run(
             self.made.as_slice(),
-            &mut [],
-            &mut sheet,
+            &mut desk,
             self.outcomes.as_mut_slice(),
         );
         let used = sheet.counts;
-        self.cut(used);
-    }
-
-    // Only what was listed is kept.
-    fn cut(&mut self, used: Counts) {
-        self.records.truncate(used.records);
-        self.letters.truncate(used.letters);
+        cut(&mut self.listed, used);
     }
 
     // Writes an answer to each call.
-    fn tell(self, answers: &mut String) -> anyhow::Result<()> {
-        let Run {
-            calls,
-            made: _,
-            outcomes,
-            records,
-            letters,
-        } = self;
-        let listed = Listed { records, letters };
-        for (call, outcome) in calls.iter().zip(outcomes.iter()) {
-            let name = name_of(call);
-            match *outcome {
-                Outcome::Listed(_) => {
-                    let records = Records(&listed);
-                    writeln!(answers, "{name}: {records}")?;
-                }
-                Outcome::Refused(refusal) => {
-                    let answer = Answer::Refused(refusal);
-                    writeln!(answers, "{name}: {answer}")?;
-                }
-                _ => {
-                    let answer = Answer::Accepted;
-                    writeln!(answers, "{name}: {answer}")?;
-                }
+    fn tell(&self, answers: &mut String) -> Result<(), AllocError> {
+        for (call, outcome) in self.calls.iter().zip(self.outcomes.iter()) {
+            let name = call.name();
+            if let Ok(Done::Listed(_)) = *outcome {
+                let records = Records(&self.listed);
+                writeln!(answers, "{name}: {records}")?;
+            } else {
+                let answer = Answer(outcome.map(|_| ()));
+                writeln!(answers, "{name}: {answer}")?;
             }
         }
         Ok(())
@@ -182,18 +95,11 @@ pub fn make_calls<Q: Quoter + Drop>(
     quoter: Q,
     calls: &[Call],
     answers: &mut String,
-) -> anyhow::Result<()> {
-    let mut run = Run::first(heap, calls)?;
-    let mut order = run.begin(quoter);
-    let mut rest = behind(calls, run.calls.len());
-    run.tell(answers)?;
-    for _ in 0..calls.len() {
-        if rest.is_empty() {
-            break;
-        }
-        let mut run = Run::first(heap, rest)?;
-        run.go_on(&mut order);
-        rest = behind(rest, run.calls.len());
+) -> Result<(), AllocError> {
+    let mut order = Order::new(quoter);
+    for calls in calls.split_inclusive(|call| matches!(call, Call::List { .. })) {
+        let mut run = Run::new(heap, calls)?;
+        run.make(&mut order);
         run.tell(answers)?;
     }
     Ok(())

@@ -7,7 +7,7 @@ use Rattle.journal.specs.Escapes.{percent, is_plain, digit, escaped, digit_value
 digit_back : (n : ℕ) → n < 16 → digit_value (digit n) ≡ Some n
 digit_back n h = search rules
 
-plain_back : (b : ℕ) → is_plain b ≡ true → piece Outside b ≡ Gives b
+plain_back : (b : ℕ) → is_plain b ≡ true → piece Outside b ≡ Some (Gives b)
 plain_back b e = search rules
 
 byte_back : (b : ℕ) → b < 256 → b / 16 % 16 * 16 + b % 16 % 16 ≡ b

@@ -4,13 +4,14 @@ use Rattle.tokens.specs.declared.letter.Mark.{Mark}
 use Rattle.tokens.specs.declared.letter.Mark.TheVariants as mark
 use Rattle.tokens.specs.declared.operator.Operator.{Operator}
 use Rattle.tokens.specs.declared.operator.Operator.TheVariants.{Newline, Amp, AndIf, Bar, OrIf, Semi, DoubleSemi, Open, Close, Less, Great, Here, Append, LessAmp, GreatAmp, LessGreat, HereDash, Clobber}
-use Rattle.tokens.specs.Letters.{mark_number, letter_number}
+use Rattle.tokens.specs.Letters.{mark_number, letter_number, mark_of, under_mark}
 use Rattle.tokens.specs.Operators.{code_of}
+use Rattle.tokens.specs.Table.{operator_of}
 use Rattle.commands.specs.declared.item.Kind.TheVariants as kind
 use Rattle.commands.specs.declared.role.Role.{Role}
 use Rattle.commands.specs.declared.role.Role.TheVariants.{Name, Arg, Assign, Target, Delim, Number}
-use Rattle.commands.specs.Roles.{role_number}
-use Rattle.journal.specs.Numbers.{role_of, operator_of, word_of, operation_of, mark_of, under_mark, KindsComeBack, LettersComeBack}
+use Rattle.commands.specs.Roles.{role_number, role_of}
+use Rattle.journal.specs.Numbers.{word_of, operation_of, KindsComeBack, LettersComeBack}
 
 roles : (r : Role) → role_of (role_number r) ≡ Some r
 roles Name = refl

@@ -1,19 +1,14 @@
 -- What is written of an escaped byte. Assumes nothing.
-use Rattle.std.proofs.Common.{◌≡◌, ℕ, ◌/◌, ◌%◌, ◌<◌, true, false, List, [], ◌∷◌, ◌++◌, sym, ap, ◌∙◌, rules}
-use lib.Utf8.{encode}
-use Rattle.std.proofs.lemmas.Str.Ascii.{encode_ascii}
-use Rattle.std.proofs.lemmas.Bool.{cond-true, cond-false}
-use Rattle.journal.specs.Escapes.{percent, is_plain, digit, escaped_byte}
+use Rattle.std.proofs.Common.{◌≡◌, ℕ, ◌-◌, ◌^◌, ◌<◌, true, false, List, [], ◌∷◌, Some, Option, sym, ap, ◌∙◌}
+use Rattle.std.specs.Fmt.{◌++?◌, digits, format_spec, padded_integral}
+use Rattle.std.proofs.lemmas.Bool.{cond-false}
+use Rattle.std.proofs.lemmas.Fmt.{hex_byte}
+use Rattle.journal.specs.Escapes.{percent, is_plain, escaped_byte}
 
-plain_ascii : (b : ℕ) → is_plain b ≡ true → b < 128
-plain_ascii b p = search rules
-
-pub plain_shown : (b c : ℕ) → c ≡ b → is_plain b ≡ true → encode c ≡ escaped_byte b
-plain_shown b c e p = ap encode e ∙ encode_ascii b (plain_ascii b p) ∙ sym (cond-true (is_plain b) _ _ p)
-
-pub escape_shown : (b high low : ℕ) → high ≡ digit (b / 16) → low ≡ digit (b % 16) → high < 128 → low < 128 → is_plain b ≡ false
-    → ◌≡◌ {A = List ℕ} (percent ∷ (encode high ++ encode low)) (escaped_byte b)
-escape_shown b high low e f h l p =
-    ap (λ x. percent ∷ (x ++ encode low)) (encode_ascii high h ∙ ap (λ n. n ∷ []) e)
-    ∙ ap (λ x. percent ∷ digit (b / 16) ∷ x) (encode_ascii low l ∙ ap (λ n. n ∷ []) f)
-    ∙ sym (cond-false (is_plain b) _ _ p)
+-- two digits behind a `%`
+pub escape_shown : (b : ℕ) → b < 256 → is_plain b ≡ false → {o : Option (List ℕ)} → o ≡ Some (padded_integral (format_spec 32 0 4 2 (2 ^ 64 - 1)) false [] (digits 16 true b))
+    → (Some (percent ∷ []) ++? o) ≡ Some (escaped_byte b)
+escape_shown b h p e =
+    ap (λ o. Some (percent ∷ []) ++? o) e
+    ∙ ap (λ x. Some (percent ∷ x)) (hex_byte true b h)
+    ∙ ap (λ x. Some x) (sym (cond-false (is_plain b) _ _ p))

@@ -29,6 +29,15 @@ Stands word bytes = unescaped word ≡ Some bytes
 abbrev pub Counts : List ℕ → ℕ → Type 0
 Counts word n = IsNumeral 10 (without_leading_plus word) × (n ≡ digits_value 10 (without_leading_plus word))
 
+-- the word that a line with this call begins with
+abbrev pub name_of : Call → List ℕ
+name_of (Order style) = codes "order"
+name_of (Alias name value) = codes "alias"
+name_of (Unalias name) = codes "unalias"
+name_of (Load template) = codes "load"
+name_of Unload = codes "unload"
+name_of (Listing records letters script) = codes "list"
+
 -- a name, and what stands behind it and a blank, spell a call
 abbrev pub Spells : List ℕ → List ℕ → Call → Type 0
 Spells name rest (Order style) = (name ≡ codes "order") × (rest ≡ style_name style)

@@ -4,7 +4,7 @@ use Rattle.std.specs.List.{AllByRecursion}
 use Rattle.journal.specs.declared.unescape.Place.{Place}
 use Rattle.journal.specs.declared.unescape.Place.TheVariants.{Outside, Percent, High}
 use Rattle.journal.specs.declared.unescape.Piece.{Piece}
-use Rattle.journal.specs.declared.unescape.Piece.TheVariants.{Leads, Gives, Bad}
+use Rattle.journal.specs.declared.unescape.Piece.TheVariants.{Leads, Gives}
 
 -- the mark of an escape, `%`
 abbrev pub percent : ℕ
@@ -29,17 +29,17 @@ escaped (b ∷ bytes) = escaped_byte b ++ escaped bytes
 abbrev pub digit_value : ℕ → Option ℕ
 digit_value d = cond (nat_le 48 d && nat_le d 57) (Some (d - 48)) (cond (nat_le 65 d && nat_le d 70) (Some (d - 55)) None)
 
-abbrev pub first_digit : Option ℕ → Piece
-first_digit None = Bad
-first_digit (Some high) = Leads (High high)
+abbrev pub first_digit : Option ℕ → Option Piece
+first_digit None = None
+first_digit (Some high) = Some (Leads (High high))
 
-abbrev pub second_digit : ℕ → Option ℕ → Piece
-second_digit high None = Bad
-second_digit high (Some low) = Gives (high % 16 * 16 + low % 16)
+abbrev pub second_digit : ℕ → Option ℕ → Option Piece
+second_digit high None = None
+second_digit high (Some low) = Some (Gives (high % 16 * 16 + low % 16))
 
--- what a byte of a word does
-abbrev pub piece : Place → ℕ → Piece
-piece Outside b = cond (b == percent) (Leads Percent) (cond (is_plain b) (Gives b) Bad)
+-- what a byte of a word does, if it may stand there
+abbrev pub piece : Place → ℕ → Option Piece
+piece Outside b = cond (b == percent) (Some (Leads Percent)) (cond (is_plain b) (Some (Gives b)) None)
 piece Percent b = first_digit (digit_value b)
 piece (High high) b = second_digit high (digit_value b)
 
@@ -54,10 +54,10 @@ with_byte b None = None
 with_byte b (Some bytes) = Some (b ∷ bytes)
 
 -- what a word stands for whose first byte does this, by what the rest stands for, read from each place
-abbrev pub pieced : Piece → (Place → Option (List ℕ)) → Option (List ℕ)
-pieced (Leads p) rest = rest p
-pieced (Gives b) rest = with_byte b (rest Outside)
-pieced Bad rest = None
+abbrev pub pieced : Option Piece → (Place → Option (List ℕ)) → Option (List ℕ)
+pieced None rest = None
+pieced (Some (Leads p)) rest = rest p
+pieced (Some (Gives b)) rest = with_byte b (rest Outside)
 
 abbrev pub unescaped_from : Place → List ℕ → Option (List ℕ)
 unescaped_from p [] = ended p

@@ -1,4 +1,5 @@
 pub mod Escapes
 pub mod Numbers
 pub mod Names
+pub mod Styles
 pub mod Calls

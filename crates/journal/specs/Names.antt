@@ -1,7 +1,8 @@
 -- The words by which kinds, roles, marks and styles are shown. Assumes nothing.
-use Rattle.std.specs.Prelude.{ℕ, List, codes}
+use Rattle.std.specs.Prelude.{ℕ, List, Some, None, codes, Option}
 use Rattle.tokens.specs.declared.letter.Mark.{Mark}
 use Rattle.tokens.specs.declared.letter.Mark.TheVariants as mark
+use Rattle.tokens.specs.Operators.{text_of}
 use Rattle.commands.specs.declared.item.Kind.{Kind}
 use Rattle.commands.specs.declared.item.Kind.TheVariants as kind
 use Rattle.commands.specs.declared.role.Role.{Role}
@@ -24,6 +25,15 @@ role_name Assign = codes "assign"
 role_name Target = codes "target"
 role_name Delim = codes "delim"
 role_name Number = codes "number"
+
+-- the role of a word, and the operator as it is written
+abbrev pub code_name : Kind → Option (List ℕ)
+code_name kind.Part = None
+code_name kind.Open = None
+code_name kind.Close = None
+code_name (kind.Word r) = Some (role_name r)
+code_name (kind.Operator o) = Some (text_of o)
+code_name kind.Body = None
 
 -- b bare, q quoted, e of an expansion, h of a here-document
 abbrev pub mark_letter : Mark → ℕ

@@ -1,41 +1,23 @@
 // The answers to a journal's calls.
 use crate::escape::EscapedByte;
-use crate::listed::{Listed, kind_of, letter_of};
-use crate::names::{kind_name, mark_letter, role_name};
+use crate::item::Item;
+use crate::listed::Listed;
+use crate::names::{code_name, kind_name, mark_letter};
+use crate::runs::{mark_of, of_one_mark};
 use basics::refusal::Refusal;
 use commands::item::Kind;
 use listing::record::Record;
 use std::fmt;
-use tokens::letter::{Letter, Mark};
-use tokens::operator::Operator;
 
-// What became of a call that has nothing else to tell.
+// The answer to a call that has nothing else to tell.
 #[derive(Clone, Copy)]
-pub enum Outcome {
-    Accepted,
-    Refused(Refusal),
-}
+pub struct Answer(pub Result<(), Refusal>);
 
-impl fmt::Display for Outcome {
-    fn fmt<W: fmt::Write>(&self, f: &mut fmt::Formatter<W>) -> fmt::Result {
-        match *self {
-            Outcome::Accepted => f.write_str("accepted"),
-            Outcome::Refused(refusal) => write!(f, "refused {refusal}"),
-        }
-    }
-}
-
-// The role or operator of a kind; `-` where it has none. A newline is escaped.
-#[derive(Clone, Copy)]
-struct Code(Kind);
-
-impl fmt::Display for Code {
+impl fmt::Display for Answer {
     fn fmt<W: fmt::Write>(&self, f: &mut fmt::Formatter<W>) -> fmt::Result {
         match self.0 {
-            Kind::Word(role) => f.write_str(role_name(role)),
-            Kind::Operator(Operator::Newline) => f.write_str("%0A"),
-            Kind::Operator(operator) => f.write_str(operator.text()),
-            _ => f.write_str("-"),
+            Ok(()) => f.write_str("accepted"),
+            Err(refusal) => write!(f, "refused {refusal}"),
         }
     }
 }
@@ -46,42 +28,40 @@ pub struct Runs<'a>(pub &'a [u16]);
 
 impl fmt::Display for Runs<'_> {
     fn fmt<W: fmt::Write>(&self, f: &mut fmt::Formatter<W>) -> fmt::Result {
-        let mut last: Option<Mark> = None;
-        for number in self.0 {
-            let Letter { mark, byte } = letter_of(*number).ok_or(fmt::Error)?;
-            if last != Some(mark) {
-                let shown = mark_letter(mark);
-                write!(f, " {shown}:")?;
-                last = Some(mark);
+        for run in self.0.chunk_by(of_one_mark) {
+            let mark = mark_letter(mark_of(run).ok_or(fmt::Error)?);
+            write!(f, " {mark}:")?;
+            for letter in run {
+                let byte = EscapedByte((letter % 256) as u8);
+                write!(f, "{byte}")?;
             }
-            let byte = EscapedByte(byte);
-            write!(f, "{byte}")?;
         }
         Ok(())
     }
 }
 
-// A record with its letters, in one line. A record that is no item is an error.
+// An item in one line. A record that is no item is an error.
 #[derive(Clone, Copy)]
-struct Line<'a> {
-    record: Record,
-    letters: &'a [u16],
-}
+struct Line<'a>(Item<'a>);
 
 impl fmt::Display for Line<'_> {
     fn fmt<W: fmt::Write>(&self, f: &mut fmt::Formatter<W>) -> fmt::Result {
-        let kind = kind_of(self.record).ok_or(fmt::Error)?;
+        let kind = Kind::try_from(self.0)?;
+        let Item { record, letters } = self.0;
         let Record {
-            kind: _,
-            code: _,
             depth,
             first,
             count,
             place,
-        } = self.record;
+            ..
+        } = record;
         let name = kind_name(kind);
-        let code = Code(kind);
-        let runs = Runs(self.letters);
+        let code = match code_name(kind) {
+            Some("\n") => "%0A",
+            Some(code) => code,
+            None => "-",
+        };
+        let runs = Runs(letters);
         write!(f, "  {name} {code} {depth} {first} {count} {place}{runs}")
     }
 }
@@ -94,11 +74,8 @@ impl fmt::Display for Records<'_> {
     fn fmt<W: fmt::Write>(&self, f: &mut fmt::Formatter<W>) -> fmt::Result {
         let count = self.0.records.len();
         write!(f, "{count}")?;
-        for record in self.0.records.iter() {
-            let line = Line {
-                record: *record,
-                letters: self.0.letters_of(*record),
-            };
+        for record in &self.0.records {
+            let line = Line(self.0.item(*record));
             write!(f, "\n{line}")?;
         }
         Ok(())

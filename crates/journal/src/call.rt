@@ -23,3 +23,22 @@ pub enum Call {
         script: Vec<u8>,
     },
 }
+
+impl Call {
+    ghost use Rattle.std.specs.Prelude.{◌≡◌};
+    ghost use Rattle.journal.specs.Calls.{name_of};
+
+    // The word that a line with this call begins with.
+    pub fn name(&self) -> &'static str
+        ensures { result.now ≡ name_of self.now }
+    {
+        match self {
+            Call::Order(_) => "order",
+            Call::Alias { .. } => "alias",
+            Call::Unalias { .. } => "unalias",
+            Call::Load { .. } => "load",
+            Call::Unload => "unload",
+            Call::List { .. } => "list",
+        }
+    }
+}

@@ -1,6 +1,6 @@
 // Bytes as a journal has them: a byte from `!` to `~` but `%` as it is, any other as `%` and two digits.
-ghost use Rattle.std.specs.Prelude.{◌≡◌, ◌<◌, Some};
-ghost use Rattle.journal.specs.Escapes.{is_plain, digit, escaped_byte};
+ghost use Rattle.std.specs.Prelude.{◌≡◌, Some};
+ghost use Rattle.journal.specs.Escapes.{is_plain, escaped_byte};
 
 use std::fmt;
 
@@ -8,16 +8,7 @@ use std::fmt;
 pub fn is_plain(b: u8) -> bool
     ensures { result ≡ is_plain b }
 {
-    b'!' <= b && b <= b'~' && b != b'%'
-}
-
-// A hexadecimal digit, in upper case.
-fn hex_digit(n: u8) -> u8
-    requires { n < 16 }
-    ensures is { result ≡ digit n }
-    ensures ascii { result < 128 }
-{
-    if n < 10 { b'0' + n } else { b'A' + (n - 10) }
+    b.is_ascii_graphic() && b != b'%'
 }
 
 #[derive(Clone, Copy)]
@@ -32,9 +23,7 @@ impl fmt::Display for EscapedByte {
             let c = char::from(b);
             write!(f, "{c}")
         } else {
-            let high = char::from(hex_digit(b / 16));
-            let low = char::from(hex_digit(b % 16));
-            write!(f, "%{high}{low}")
+            write!(f, "%{b:02X}")
         }
     }
 }

@@ -3,16 +3,12 @@ ghost use Rattle.journal.specs.Escapes.{EscapesComeBack};
 ghost use Rattle.journal.specs.Numbers.{KindsComeBack, LettersComeBack};
 
 // The bytes of a word that was escaped are given back.
-pub fn escapes_come_back() -> bool
+pub fn escapes_come_back()
     ensures { EscapesComeBack }
-{
-    true
-}
+{}
 
 // The kind and the letters of an item are told by their numbers on a sheet.
-pub fn numbers_come_back() -> bool
+pub fn numbers_come_back()
     ensures kinds { KindsComeBack }
     ensures letters { LettersComeBack }
-{
-    true
-}
+{}

@@ -1,6 +1,8 @@
 // The words by which kinds, roles and marks are shown.
+// Stays: texts and not impls of Display, since the enums lie in crates below, and a newtype around each would be no plainer.
 ghost use Rattle.std.specs.Prelude.{◌≡◌};
-ghost use Rattle.journal.specs.Names.{kind_name, role_name, mark_letter};
+ghost use Rattle.std.specs.Option.{option_copied};
+ghost use Rattle.journal.specs.Names.{kind_name, role_name, code_name, mark_letter};
 
 use commands::item::Kind;
 use commands::role::Role;
@@ -29,6 +31,17 @@ pub fn role_name(role: Role) -> &'static str
         Role::Target => "target",
         Role::Delim => "delim",
         Role::Number => "number",
+    }
+}
+
+// The role of a word, or the operator as it is written.
+pub fn code_name(kind: Kind) -> Option<&'static str>
+    ensures { option_copied result ≡ code_name kind }
+{
+    match kind {
+        Kind::Word(role) => Some(role_name(role)),
+        Kind::Operator(operator) => Some(operator.text()),
+        Kind::Part | Kind::Open | Kind::Close | Kind::Body => None,
     }
 }
 

@@ -4,7 +4,6 @@ ghost use Rattle.journal.specs.Calls.{blank, Blankless, passed_over, Stands, Cou
 
 use crate::call::Call;
 use crate::fault::Fault;
-use crate::style::Style;
 use crate::unescape::unescape;
 use std::alloc::Global;
 
@@ -56,8 +55,8 @@ fn parse_call(heap: Global, name: &str, rest: &str) -> Result<Call, Fault>
     match name {
         "order" => parse_order(rest),
         "alias" => parse_alias(heap, rest),
-        "unalias" => parse_unalias(heap, rest),
-        "load" => parse_load(heap, rest),
+        "unalias" => bytes_of(heap, rest).map(|name| Call::Unalias { name }),
+        "load" => bytes_of(heap, rest).map(|template| Call::Load { template }),
         "unload" => Err(Fault::Form(UNLOAD)),
         "list" => parse_list(heap, rest),
         _ => Err(Fault::UnknownCall),
@@ -67,46 +66,24 @@ fn parse_call(heap: Global, name: &str, rest: &str) -> Result<Call, Fault>
 fn parse_order(rest: &str) -> Result<Call, Fault>
     ensures { IfOk result (λ call. Spells (codes "order") rest.now call) }
 {
-    match Style::of_name(rest) {
-        Some(style) => Ok(Call::Order(style)),
-        None => Err(Fault::Form(ORDER)),
-    }
+    let style = rest.parse().map_err(|_| Fault::Form(ORDER))?;
+    Ok(Call::Order(style))
 }
 
 fn parse_alias(heap: Global, rest: &str) -> Result<Call, Fault>
     ensures { IfOk result (λ call. Spells (codes "alias") rest.now call) }
 {
-    let Some((name, value)) = cut(rest) else {
-        return Err(Fault::Form(ALIAS));
-    };
+    let (name, value) = cut(rest).ok_or(Fault::Form(ALIAS))?;
     let name = bytes_of(heap, name)?;
     let value = bytes_of(heap, value)?;
     Ok(Call::Alias { name, value })
 }
 
-fn parse_unalias(heap: Global, rest: &str) -> Result<Call, Fault>
-    ensures { IfOk result (λ call. Spells (codes "unalias") rest.now call) }
-{
-    let name = bytes_of(heap, rest)?;
-    Ok(Call::Unalias { name })
-}
-
-fn parse_load(heap: Global, rest: &str) -> Result<Call, Fault>
-    ensures { IfOk result (λ call. Spells (codes "load") rest.now call) }
-{
-    let template = bytes_of(heap, rest)?;
-    Ok(Call::Load { template })
-}
-
 fn parse_list(heap: Global, rest: &str) -> Result<Call, Fault>
     ensures { IfOk result (λ call. Spells (codes "list") rest.now call) }
 {
-    let Some((records, rest)) = cut(rest) else {
-        return Err(Fault::Form(LIST));
-    };
-    let Some((letters, script)) = cut(rest) else {
-        return Err(Fault::Form(LIST));
-    };
+    let (records, rest) = cut(rest).ok_or(Fault::Form(LIST))?;
+    let (letters, script) = cut(rest).ok_or(Fault::Form(LIST))?;
     let records = number(records)?;
     let letters = number(letters)?;
     let script = bytes_of(heap, script)?;
@@ -128,18 +105,12 @@ fn cut(line: &str) -> Option<(&str, &str)>
 fn bytes_of(heap: Global, word: &str) -> Result<Vec<u8>, Fault>
     ensures { IfOk result (λ v. Stands word.now v.items) }
 {
-    match unescape(heap, word.as_bytes())? {
-        Some(bytes) => Ok(bytes),
-        None => Err(Fault::Escape),
-    }
+    unescape(heap, word.as_bytes())?.ok_or(Fault::Escape)
 }
 
 // A number of slots.
 fn number(word: &str) -> Result<usize, Fault>
     ensures { IfOk result (λ n. Counts word.now n) }
 {
-    match word.parse::<usize>() {
-        Ok(n) => Ok(n),
-        Err(_) => Err(Fault::Form(LIST)),
-    }
+    word.parse().map_err(|_| Fault::Form(LIST))
 }

@@ -1,8 +1,11 @@
 // How texts are quoted.
-ghost use Rattle.std.specs.Prelude.{◌≡◌, IfSome, Some};
+ghost use Rattle.std.specs.Prelude.{◌≡◌, Some};
 ghost use Rattle.journal.specs.Names.{style_name};
+ghost use Rattle.journal.specs.Styles.{FindsStyle};
 
 use std::fmt;
+use std::str::FromStr;
+use thiserror::Error;
 
 #[derive(Clone, Copy, Debug, PartialEq, Eq)]
 pub enum Style {
@@ -19,15 +22,23 @@ impl Style {
             Style::Backslash => "backslash",
         }
     }
+}
 
-    pub fn of_name(name: &str) -> Option<Style>
-        ensures named { IfSome result (λ s. name.now ≡ style_name s) }
-        ensures finds { (s : Style) → name.now ≡ style_name s → result ≡ Some s }
-    {
+// A name that no style has.
+#[derive(Clone, Copy, Debug, PartialEq, Eq, Error)]
+#[error("write single or backslash")]
+pub struct UnknownStyle;
+
+impl FromStr for Style {
+    type Err = UnknownStyle;
+
+    ghost from_str_gives = { FindsStyle };
+
+    fn from_str(name: &str) -> Result<Self, UnknownStyle> {
         match name {
-            "single" => Some(Style::Single),
-            "backslash" => Some(Style::Backslash),
-            _ => None,
+            "single" => Ok(Style::Single),
+            "backslash" => Ok(Style::Backslash),
+            _ => Err(UnknownStyle),
         }
     }
 }
@@ -36,7 +47,6 @@ impl fmt::Display for Style {
     ghost output = { λ x. Some (style_name x) };
 
     fn fmt<W: fmt::Write>(&self, f: &mut fmt::Formatter<W>) -> fmt::Result {
-        let name = self.name();
-        write!(f, "{name}")
+        f.write_str(self.name())
     }
 }

@@ -14,47 +14,38 @@ pub enum Place {
     High(u8),
 }
 
-// What a byte of a word does: it leads on inside an escape, gives a byte and leaves the escape, or may not stand there.
+// What a byte of a word does: it leads on inside an escape, or gives a byte and leaves the escape.
 #[derive(Clone, Copy)]
 pub enum Piece {
     Leads(Place),
     Gives(u8),
-    Bad,
 }
 
 // The number of a hexadecimal digit in upper case.
+// Stays: `char::to_digit` takes digits in lower case too, which no word of a journal has.
 fn digit_value(d: u8) -> Option<u8>
     ensures { result ≡ digit_value d }
 {
     match d {
         b'0'..=b'9' => Some(d - b'0'),
-        b'A'..=b'F' => Some(d - 55),
+        b'A'..=b'F' => Some(d - b'A' + 10),
         _ => None,
     }
 }
 
 impl Place {
-    fn piece(self, b: u8) -> Piece
+    // None where the byte may not stand.
+    fn piece(self, b: u8) -> Option<Piece>
         ensures { result ≡ piece self b }
     {
         match self {
-            Place::Outside => {
-                if b == b'%' {
-                    Piece::Leads(Place::Percent)
-                } else if is_plain(b) {
-                    Piece::Gives(b)
-                } else {
-                    Piece::Bad
-                }
+            Place::Outside if b == b'%' => Some(Piece::Leads(Place::Percent)),
+            Place::Outside if is_plain(b) => Some(Piece::Gives(b)),
+            Place::Outside => None,
+            Place::Percent => digit_value(b).map(|high| Piece::Leads(Place::High(high))),
+            Place::High(high) => {
+                digit_value(b).map(|low| Piece::Gives(high % 16 * 16 + low % 16))
             }
-            Place::Percent => match digit_value(b) {
-                Some(high) => Piece::Leads(Place::High(high)),
-                None => Piece::Bad,
-            },
-            Place::High(high) => match digit_value(b) {
-                Some(low) => Piece::Gives(high % 16 * 16 + low % 16),
-                None => Piece::Bad,
-            },
         }
     }
 }
@@ -66,13 +57,15 @@ pub fn unescape(heap: Global, word: &[u8]) -> Result<Option<Vec<u8>>, AllocError
     let mut bytes = Vec::new(heap);
     let mut place = Place::Outside;
     for b in word {
-        match place.piece(*b) {
+        let Some(step) = place.piece(*b) else {
+            return Ok(None);
+        };
+        match step {
             Piece::Leads(next) => place = next,
             Piece::Gives(byte) => {
                 bytes.push(byte)?;
                 place = Place::Outside;
             }
-            Piece::Bad => return Ok(None),
         }
     }
     match place {

@@ -3,13 +3,15 @@
 
 use basics::refusal::Refusal;
 use commands::item::Kind;
-use journal::listed::{Listed, kind_of, letter_of};
+use journal::item::Item;
+use journal::listed::Listed;
 use journal::names::{kind_name, role_name};
+use journal::runs::{mark_of, of_one_mark};
 use listing::record::Record;
 use std::fmt;
-use tokens::letter::{Letter, Mark};
+use tokens::letter::Mark;
 use tokens::operator::Operator;
-use views::holes::Holes;
+use views::holes::{Holes, Joined};
 
 // A byte inside a JSON string.
 #[derive(Clone, Copy)]
@@ -30,6 +32,7 @@ impl fmt::Display for JsonByte {
     }
 }
 
+// Stays: a text, as the names of kinds and roles are.
 fn mark_name(mark: Mark) -> &'static str {
     match mark {
         Mark::Bare => "bare",
@@ -39,37 +42,37 @@ fn mark_name(mark: Mark) -> &'static str {
     }
 }
 
-// Ends the run of letters before, if there is one, and begins a run of this mark.
-fn begin_run<W: fmt::Write>(
-    f: &mut fmt::Formatter<W>,
-    before: Option<Mark>,
-    mark: Mark,
-) -> fmt::Result {
-    if before.is_some() {
-        f.write_str("\"},")?;
+// Letters of one mark as an object.
+#[derive(Clone, Copy)]
+struct JsonRun<'a>(&'a [u16]);
+
+impl fmt::Display for JsonRun<'_> {
+    fn fmt<W: fmt::Write>(&self, f: &mut fmt::Formatter<W>) -> fmt::Result {
+        let mark = mark_name(mark_of(self.0).ok_or(fmt::Error)?);
+        write!(f, "{{\"mark\":\"{mark}\",\"text\":\"")?;
+        for letter in self.0 {
+            let byte = JsonByte((letter % 256) as u8);
+            write!(f, "{byte}")?;
+        }
+        f.write_str("\"}")
     }
-    let name = mark_name(mark);
-    write!(f, "{{\"mark\":\"{name}\",\"text\":\"")
 }
 
-// Letters as an array, an object for each run of one mark.
+// Letters as an array of their runs of one mark.
 #[derive(Clone, Copy)]
 struct JsonRuns<'a>(&'a [u16]);
 
 impl fmt::Display for JsonRuns<'_> {
     fn fmt<W: fmt::Write>(&self, f: &mut fmt::Formatter<W>) -> fmt::Result {
-        let mut last: Option<Mark> = None;
         f.write_str("[")?;
-        for number in self.0 {
-            let Letter { mark, byte } = letter_of(*number).ok_or(fmt::Error)?;
-            if last != Some(mark) {
-                begin_run(f, last, mark)?;
-                last = Some(mark);
+        for (i, run) in self.0.chunk_by(of_one_mark).enumerate() {
+            let run = JsonRun(run);
+            if i > 0 {
+                f.write_str(",")?;
             }
-            let byte = JsonByte(byte);
-            write!(f, "{byte}")?;
+            write!(f, "{run}")?;
         }
-        f.write_str(if last.is_some() { "\"}]" } else { "]" })
+        f.write_str("]")
     }
 }
 
@@ -97,23 +100,20 @@ impl fmt::Display for JsonKind {
 }
 
 #[derive(Clone, Copy)]
-struct JsonItem<'a> {
-    record: Record,
-    letters: &'a [u16],
-}
+struct JsonItem<'a>(Item<'a>);
 
 impl fmt::Display for JsonItem<'_> {
     fn fmt<W: fmt::Write>(&self, f: &mut fmt::Formatter<W>) -> fmt::Result {
+        let kind = JsonKind(Kind::try_from(self.0)?);
+        let Item { record, letters } = self.0;
         let Record {
-            kind: _,
-            code: _,
             depth,
             first,
             count,
             place,
-        } = self.record;
-        let kind = JsonKind(kind_of(self.record).ok_or(fmt::Error)?);
-        let runs = JsonRuns(self.letters);
+            ..
+        } = record;
+        let runs = JsonRuns(letters);
         write!(
             f,
             "{{{kind},\"depth\":{depth},\"first\":{first},\"count\":{count},\"place\":{place},\"letters\":{runs}}}"
@@ -126,11 +126,8 @@ pub struct JsonItems<'a>(pub &'a Listed);
 
 impl fmt::Display for JsonItems<'_> {
     fn fmt<W: fmt::Write>(&self, f: &mut fmt::Formatter<W>) -> fmt::Result {
-        for record in self.0.records.iter() {
-            let item = JsonItem {
-                record: *record,
-                letters: self.0.letters_of(*record),
-            };
+        for record in &self.0.records {
+            let item = JsonItem(self.0.item(*record));
             writeln!(f, "{item}")?;
         }
         Ok(())
@@ -142,8 +139,8 @@ pub struct JsonRefusal(pub Refusal);
 
 impl fmt::Display for JsonRefusal {
     fn fmt<W: fmt::Write>(&self, f: &mut fmt::Formatter<W>) -> fmt::Result {
-        let number = self.0.number();
-        let layer = self.0.layer().number();
+        let number = u8::from(self.0.reason);
+        let layer = u8::from(self.0.layer());
         let place = self.0.place;
         let words = self.0.words();
         writeln!(
@@ -158,17 +155,11 @@ pub struct JsonHoles(pub Holes);
 
 impl fmt::Display for JsonHoles {
     fn fmt<W: fmt::Write>(&self, f: &mut fmt::Formatter<W>) -> fmt::Result {
-        let mut first = true;
-        f.write_str("{\"holes\":[")?;
-        for digit in 0..10u16 {
-            if self.0.has(digit) {
-                if !first {
-                    f.write_str(",")?;
-                }
-                write!(f, "{digit}")?;
-                first = false;
-            }
-        }
-        f.write_str("]}\n")
+        let digits = self.0.digits();
+        let digits = Joined {
+            numbers: digits.as_slice(),
+            by: ",",
+        };
+        writeln!(f, "{{\"holes\":[{digits}]}}")
     }
 }

@@ -1,10 +1,16 @@
 -- The line of a text in which a place stands. Assumes nothing.
-use Rattle.std.specs.Prelude.{ℕ, ◌+◌, ◌-◌, min, Bool, cond, List, [], ◌∷◌, length, take, drop, Some, None, Option, ◌==◌}
+use Rattle.std.specs.Prelude.{◌≡◌, ◌≢◌, ℕ, ◌+◌, ◌-◌, ◌<◌, min, Bool, cond, List, [], ◌∷◌, length, take, drop, Some, None, Option, MatchOption, EachIndex, slice_index, ◌==◌}
 use Rattle.basics.specs.Bytes.{newline, occurrences}
 use Rattle.basics.specs.Searches.{first_where}
 
 abbrev pub is_newline : ℕ → Bool
 is_newline b = b == newline
+
+-- the last newline of a text, or that it has none
+abbrev pub FindsLastNewline : List ℕ → Option ℕ → Type 0
+FindsLastNewline text r =
+    MatchOption r (EachIndex text (λ k. slice_index text k ≢ newline))
+    (λ i. (i < length text) × (slice_index text i ≡ newline) × ((k : ℕ) → i < k → k < length text → slice_index text k ≢ newline))
 
 -- where the last line of a text begins: past its last newline. The line before these bytes began at `start`, and they at i.
 abbrev pub start_from : ℕ → ℕ → List ℕ → ℕ

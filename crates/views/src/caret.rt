@@ -53,7 +53,7 @@ impl Pointed {
 fn shown(c: char) -> char {
     match c {
         '\t' => ' ',
-        '\0'..='\u{1f}' | '\u{7f}'..='\u{9f}' => '?',
+        _ if c.is_control() => '?',
         _ => c,
     }
 }
@@ -61,17 +61,13 @@ fn shown(c: char) -> char {
 impl Pointed {
     // Whether the refusal is about a place in the text at all.
     fn has_place(&self) -> bool {
-        match self.refusal.reason {
-            Reason::TooLong | Reason::NoRoom => false,
-            _ => true,
-        }
+        !matches!(self.refusal.reason, Reason::TooLong | Reason::NoRoom)
     }
 
     // The line, from the character where what is shown of it begins.
     fn write_line<W: fmt::Write>(&self, f: &mut fmt::Formatter<W>, from: usize) -> fmt::Result {
         f.write_str(if from > 0 { "  ..." } else { "  " })?;
-        for c in self.line.as_str().chars().skip(from).take(WIDTH) {
-            let c = shown(c);
+        for c in self.line.as_str().chars().skip(from).take(WIDTH).map(shown) {
             write!(f, "{c}")?;
         }
         f.write_str("\n")
@@ -79,10 +75,8 @@ impl Pointed {
 
     fn write_caret<W: fmt::Write>(&self, f: &mut fmt::Formatter<W>, from: usize) -> fmt::Result {
         f.write_str(if from > 0 { "     " } else { "  " })?;
-        for _ in from..self.column {
-            f.write_str(" ")?;
-        }
-        f.write_str("^\n")
+        let before = self.column.saturating_sub(from);
+        writeln!(f, "{:before$}^", "")
     }
 }
 

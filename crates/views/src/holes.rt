@@ -1,7 +1,8 @@
 // The holes of a template, in words.
 ghost use Rattle.std.specs.Prelude.{◌≡◌};
-ghost use Rattle.views.specs.Holes.{has_hole, hole_count};
+ghost use Rattle.views.specs.Holes.{has_hole, hole_count, holes_of};
 
+use arrayvec::ArrayVec;
 use std::fmt;
 
 // A mask: hole 0 is the lowest bit.
@@ -20,27 +21,52 @@ impl Holes {
     {
         (self.0 % 1024).count_ones()
     }
+
+    // The lowest first.
+    pub fn digits(self) -> ArrayVec<u16, 10>
+        ensures { result.items ≡ holes_of self.0 }
+    {
+        let mut digits = ArrayVec::new();
+        for digit in 0..10u16 {
+            if self.has(digit) {
+                digits.push(digit);
+            }
+        }
+        digits
+    }
+}
+
+// Numbers, with a text between each two.
+#[derive(Clone, Copy)]
+pub struct Joined<'a> {
+    pub numbers: &'a [u16],
+    pub by: &'static str,
+}
+
+impl fmt::Display for Joined<'_> {
+    fn fmt<W: fmt::Write>(&self, f: &mut fmt::Formatter<W>) -> fmt::Result {
+        let mut before = "";
+        for number in self.numbers {
+            write!(f, "{before}{number}")?;
+            before = self.by;
+        }
+        Ok(())
+    }
 }
 
 impl fmt::Display for Holes {
     fn fmt<W: fmt::Write>(&self, f: &mut fmt::Formatter<W>) -> fmt::Result {
-        let mut left = self.count();
-        match left {
-            0 => return f.write_str("no holes"),
-            1 => f.write_str("hole ")?,
-            _ => f.write_str("holes ")?,
-        }
-        for digit in 0..10u16 {
-            if self.has(digit) {
-                left = left.saturating_sub(1);
-                write!(f, "{digit}")?;
-                match left {
-                    0 => {}
-                    1 => f.write_str(" and ")?,
-                    _ => f.write_str(", ")?,
-                }
+        let digits = self.digits();
+        match digits.as_slice() {
+            [] => f.write_str("no holes"),
+            [digit] => write!(f, "hole {digit}"),
+            [front @ .., last] => {
+                let front = Joined {
+                    numbers: front,
+                    by: ", ",
+                };
+                write!(f, "holes {front} and {last}")
             }
         }
-        Ok(())
     }
 }

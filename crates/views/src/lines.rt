@@ -1,10 +1,10 @@
 // The lines of a text.
 ghost use Rattle.std.specs.Prelude.{◌≡◌};
-ghost use Rattle.views.specs.Lines.{is_newline, last_start, first_line, lines_above, line_of, before_place};
+ghost use Rattle.basics.specs.Searches.{first_where};
+ghost use Rattle.views.specs.Lines.{is_newline, FindsLastNewline, last_start, first_line, lines_above, line_of, before_place};
 
 use basics::bytes::count;
-use basics::search::{ByteTest, first_where};
-use journal::slices::{behind, up_to};
+use basics::slices::{behind, up_to};
 
 // The line in which a place stands. The end behind a last newline stands in the line that the newline ends.
 #[derive(Clone, Copy)]
@@ -16,38 +16,36 @@ pub struct Line<'a> {
     pub before: &'a [u8],
 }
 
-#[derive(Clone, Copy)]
-struct IsNewline;
-
-impl ByteTest for IsNewline {
-    ghost passes = { λ _ b. is_newline b };
-
-    fn test(&self, byte: u8) -> bool {
-        byte == b'\n'
-    }
-}
-
 // Where the last line of a text begins.
 fn last_start(text: &[u8]) -> usize
     ensures { result ≡ last_start text.now }
 {
-    let mut start = 0;
-    for i in 0..text.len() {
-        if text[i] == b'\n' {
-            start = i + 1;
-        }
+    match last_newline(text) {
+        Some(i) => i + 1,
+        None => 0,
     }
-    start
+}
+
+fn last_newline(text: &[u8]) -> Option<usize>
+    ensures { FindsLastNewline text.now result }
+{
+    text.iter().rposition(|b| *b == b'\n')
 }
 
 // A text up to its first newline.
 fn first_line(text: &[u8]) -> &[u8]
     ensures { result.now ≡ first_line text.now }
 {
-    match first_where(&IsNewline, text) {
+    match first_newline(text) {
         Some(end) => up_to(text, end),
         None => text,
     }
+}
+
+fn first_newline(text: &[u8]) -> Option<usize>
+    ensures { result ≡ first_where is_newline text.now }
+{
+    text.iter().position(|b| *b == b'\n')
 }
 
 pub fn line_at(text: &[u8], place: usize) -> Line<'_>

@@ -1,24 +1,18 @@
-use Rattle.std.proofs.Common.{◌≡◌, ◌/◌, ◌%◌, ◌<◌, true, false, ◌∙◌, subst, rules}
-use Rattle.std.specs.Fmt.{HasWritten}
-use Rattle.journal.specs.Escapes.{is_plain, digit}
-use Rattle.journal.proofs.Shown.{plain_shown, escape_shown}
+use Rattle.std.proofs.Common.{◌≡◌, ◌-◌, ◌^◌, ◌<◌, false, [], ap, ◌∙◌, subst, rules}
+use Rattle.std.specs.Fmt.{DisplaysOnOk, format_spec, padded_integral, styled_digits_output}
+use Rattle.std.specs.Option.{option_map}
+use Rattle.journal.specs.Escapes.{is_plain}
+use Rattle.journal.proofs.Shown.{escape_shown}
 use Rattle.journal.proofs.escape.EscapedByteDisplay.fmt.Goals as goal
 
-pub returns-then-is_plain-clause-writes : goal.returns-then-is_plain-clause-writes
-returns-then-is_plain-clause-writes g c plain ok =
-    let b = c.args.self.now.0 in
-    let p : is_plain b ≡ true = search rules in
-    subst (λ bs. HasWritten {W = g.row.W.Denot} g.W.Write.write_str_gives c.args.f.now bs c.write.new.self)
-    (plain_shown b c.from-c.result c.from-c.ensures p) (c.write.ensures.writes plain ok)
-
 pub returns-else-is_plain-clause-writes : goal.returns-else-is_plain-clause-writes
-returns-else-is_plain-clause-writes g c plain ok =
+returns-else-is_plain-clause-writes g c =
     let b = c.args.self.now.0 in
-    let high = c.from-high.result in
-    let low = c.from-low.result in
-    let p : is_plain b ≡ false = search rules in
-    let e : high ≡ digit (b / 16) = c.from-high.ensures ∙ c.hex_digit.ensures.is in
-    let f : low ≡ digit (b % 16) = c.from-low.ensures ∙ c.hex_digit-else-is_plain.ensures.is in
-    let h : high < 128 = search rules in
-    let l : low < 128 = search rules in
-    subst (λ bs. HasWritten {W = g.row.W.Denot} g.W.Write.write_str_gives c.args.f.now bs c.write-else-is_plain.new.self) (escape_shown b high low e f h l p) (c.write-else-is_plain.ensures.writes plain ok)
+    let byte : b < 256 = search rules in
+    let escaped : is_plain b ≡ false = search rules in
+    let shown =
+    ap (λ s. styled_digits_output c.in_radix.result s) c.laid_out.ensures
+    ∙ ap (λ o. option_map (padded_integral (format_spec 32 0 4 2 (2 ^ 64 - 1)) false []) o) c.in_radix.ensures
+    in
+    subst (λ o. DisplaysOnOk {W = g.row.W.Denot} g.W.Write.write_str_gives c.args.f.now c.write-else-is_plain.result o c.write-else-is_plain.new.self)
+    (escape_shown b byte escaped shown) c.write-else-is_plain.ensures.writes
