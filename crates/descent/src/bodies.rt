@@ -1,49 +1,45 @@
 // The bodies of here-documents.
-use super::command::{Command, Pending, Stage};
+ghost use Rattle.std.specs.Prelude.{◌-◌, ◌≤◌, OnOk};
+ghost use Rattle.descent_lexer.specs.Text.{left};
+
+use super::command::{Pending, Stage};
+use super::level::Level;
 use super::reader::Reader;
 use basics::refusal::Reason;
 use descent_lexer::fault::{Fault, refused};
 use descent_lexer::item::{Kind, Letter};
-use descent_lexer::text::Sign;
 
-// A line without its newline, and whether it had one.
-#[derive(Drop)]
-struct Line {
-    bytes: Vec<u8>,
-    newline: bool,
-}
-
-impl Reader {
+impl<'a> Reader<'a> {
     // After a newline: the bodies that are pending, in order.
-    pub fn bodies(&mut self, command: &mut Command, depth: usize) -> Result<(), Fault> {
-        let due = std::mem::replace(&mut command.pending, Vec::new(self.heap));
-        let must = command.stage == Stage::Must;
+    // Stays: each function of the reader says how much of the text it leaves, by which the loops that call it end; it relates before
+    // and after, so no type holds it.
+    pub fn bodies(&mut self, level: Level) -> Result<(), Fault>
+        ensures { OnOk result (left self.new.text ≤ left self.old.text) }
+    {
+        let due = std::mem::replace(&mut self.command.pending, Vec::new(self.heap));
         for pending in due {
-            self.body(&pending, must, depth)?;
+            self.body(&pending, level)?;
             self.pending = self.pending.saturating_sub(1);
         }
         Ok(())
     }
 
-    fn body(&mut self, pending: &Pending, must: bool, depth: usize) -> Result<(), Fault> {
+    fn body(&mut self, pending: &Pending, level: Level) -> Result<(), Fault>
+        ensures { OnOk result (left self.new.text ≤ left self.old.text) }
+    {
         let place = self.text.place();
         let mut letters = Vec::new(self.heap);
-        for _ in 0..self.text.turns() {
-            if self.text.raw() == None {
-                break;
-            }
+        while self.text.raw().is_some() {
             let line = self.line(pending.tabs)?;
-            if line.bytes == pending.delim {
-                return self.give(Kind::Body, depth, letters, place);
+            let line = line.as_slice();
+            if line.strip_suffix(b"\n").unwrap_or(line) == pending.delim.as_slice() {
+                return self.give(Kind::Body, level, letters, place);
             }
-            for b in line.bytes.iter() {
+            for b in line {
                 letters.push(Letter::Body(*b))?;
             }
-            if line.newline {
-                letters.push(Letter::Body(b'\n'))?;
-            }
         }
-        let reason = if depth > 0 || must {
+        let reason = if level.depth > 0 || self.command.stage == Stage::Must {
             Reason::Unfinished
         } else {
             Reason::HereDocument
@@ -51,34 +47,21 @@ impl Reader {
         Err(refused(reason, self.text.end()))
     }
 
-    // One line as it stands, but for leading tabs where they are dropped.
-    fn line(&mut self, tabs: bool) -> Result<Line, Fault> {
-        let mut bytes = Vec::new(self.heap);
+    // One line with its newline, if it has one, but for leading tabs where they are dropped.
+    fn line(&mut self, tabs: bool) -> Result<Vec<u8>, Fault>
+        ensures { OnOk result (left self.new.text ≤ left self.old.text - 1) }
+    {
+        let mut line = Vec::new(self.heap);
         let mut leading = tabs;
-        for _ in 0..self.text.turns() {
-            match self.text.raw() {
-                None => break,
-                Some(Sign::Hole(_)) => return Err(refused(Reason::HoleNotTaken, self.text.place())),
-                Some(Sign::Byte(b)) => {
-                    self.text.skip();
-                    if b == b'\n' {
-                        return Ok(Line {
-                            bytes,
-                            newline: true,
-                        });
-                    }
-                    if b != b'\t' {
-                        leading = false;
-                    }
-                    if !leading {
-                        bytes.push(b)?;
-                    }
-                }
+        while let Some(b) = self.text.take_byte()? {
+            leading = leading && b == b'\t';
+            if !leading {
+                line.push(b)?;
+            }
+            if b == b'\n' {
+                break;
             }
         }
-        Ok(Line {
-            bytes,
-            newline: false,
-        })
+        Ok(line)
     }
 }

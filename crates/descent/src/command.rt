@@ -18,13 +18,12 @@ pub enum Stage {
     Done,
 }
 
-// What a redirection still awaits.
-#[derive(Clone, Copy, PartialEq, Eq)]
+// The word that a redirection awaits.
+#[derive(Clone, Copy)]
 pub enum Awaited {
-    Nothing,
     Target,
-    Delim,
-    DelimTabs,
+    // leading tabs of its here-document's lines are dropped, or are not
+    Delimiter { tabs: bool },
 }
 
 // A here-document whose body is to come.
@@ -35,19 +34,11 @@ pub struct Pending {
     pub tabs: bool,
 }
 
-// Where commands are read: at the bottom, in `( )` or in `$( )`.
-#[derive(Clone, Copy, PartialEq, Eq)]
-pub enum Frame {
-    Bottom,
-    Group,
-    Substitution,
-}
-
 // The state of the commands of one substitution, or of the bottom.
 #[derive(Drop)]
 pub struct Command {
     pub stage: Stage,
-    pub awaited: Awaited,
+    pub awaited: Option<Awaited>,
     pub pending: Vec<Pending>,
 }
 
@@ -55,31 +46,32 @@ impl Command {
     pub fn new(heap: Global) -> Command {
         Command {
             stage: Stage::Start,
-            awaited: Awaited::Nothing,
+            awaited: None,
             pending: Vec::new(heap),
         }
     }
 
-    pub fn awaits_delim(&self) -> bool {
-        let awaited = self.awaited;
-        awaited == Awaited::Delim || awaited == Awaited::DelimTabs
+    // A delimiter has no expansion; `start` is where the word began that has one.
+    pub fn takes_expansion(&self, start: usize) -> Result<(), Fault> {
+        match self.awaited {
+            Some(Awaited::Delimiter { .. }) => Err(refused(Reason::HereDocument, start)),
+            Some(Awaited::Target) | None => Ok(()),
+        }
     }
 
     // Whether a hole may stand here, in a word that is an assignment so far or is not.
     pub fn takes_hole(&self, assign: bool) -> bool {
-        match self.awaited {
-            Awaited::Target => true,
-            Awaited::Delim | Awaited::DelimTabs => false,
-            Awaited::Nothing => match self.stage {
-                Stage::Args | Stage::Done => true,
-                Stage::Start | Stage::Must | Stage::Head => assign,
-            },
+        match (self.awaited, self.stage) {
+            (Some(Awaited::Target), _) => true,
+            (Some(Awaited::Delimiter { .. }), _) => false,
+            (None, Stage::Args | Stage::Done) => true,
+            (None, Stage::Start | Stage::Must | Stage::Head) => assign,
         }
     }
 
     // What an operator other than a parenthesis does; it is out of place where it cannot stand.
     pub fn operate(&mut self, operator: Operator, place: usize) -> Result<(), Fault> {
-        if self.awaited != Awaited::Nothing {
+        if self.awaited.is_some() {
             return Err(refused(Reason::OutOfPlace, place));
         }
         match operator {
@@ -87,49 +79,49 @@ impl Command {
                 if self.stage != Stage::Must {
                     self.stage = Stage::Start;
                 }
-                Ok(())
             }
-            Operator::Semicolon | Operator::And => self.finish(Stage::Start, place),
-            Operator::Pipe | Operator::AndIf | Operator::OrIf => self.finish(Stage::Must, place),
+            Operator::Semicolon | Operator::And => self.finish(Stage::Start, place)?,
+            Operator::Pipe | Operator::AndIf | Operator::OrIf => self.finish(Stage::Must, place)?,
             Operator::DoubleSemicolon | Operator::Open | Operator::Close => {
-                Err(refused(Reason::OutOfPlace, place))
+                return Err(refused(Reason::OutOfPlace, place));
             }
-            Operator::HereDocument => self.redirect(Awaited::Delim),
-            Operator::HereDocumentTabs => self.redirect(Awaited::DelimTabs),
+            Operator::HereDocument => self.redirect(Awaited::Delimiter { tabs: false }),
+            Operator::HereDocumentTabs => self.redirect(Awaited::Delimiter { tabs: true }),
             _ => self.redirect(Awaited::Target),
-        }
-    }
-
-    fn finish(&mut self, next: Stage, place: usize) -> Result<(), Fault> {
-        match self.stage {
-            Stage::Start | Stage::Must => Err(refused(Reason::OutOfPlace, place)),
-            Stage::Head | Stage::Args | Stage::Done => {
-                self.stage = next;
-                Ok(())
-            }
-        }
-    }
-
-    fn redirect(&mut self, awaited: Awaited) -> Result<(), Fault> {
-        self.awaited = awaited;
-        if self.stage == Stage::Start || self.stage == Stage::Must {
-            self.stage = Stage::Head;
         }
         Ok(())
     }
 
+    fn finish(&mut self, next: Stage, place: usize) -> Result<(), Fault> {
+        if self.has_not_begun() {
+            return Err(refused(Reason::OutOfPlace, place));
+        }
+        self.stage = next;
+        Ok(())
+    }
+
+    fn redirect(&mut self, awaited: Awaited) {
+        self.awaited = Some(awaited);
+        if self.has_not_begun() {
+            self.stage = Stage::Head;
+        }
+    }
+
+    fn has_not_begun(&self) -> bool {
+        matches!(self.stage, Stage::Start | Stage::Must)
+    }
+
     pub fn may_open(&self) -> bool {
-        self.awaited == Awaited::Nothing
-            && (self.stage == Stage::Start || self.stage == Stage::Must)
+        self.awaited.is_none() && self.has_not_begun()
     }
 
     pub fn may_close(&self) -> bool {
-        self.awaited == Awaited::Nothing && self.stage != Stage::Must
+        self.awaited.is_none() && self.stage != Stage::Must
     }
 
     // Whether the text may end here, below no frame.
     pub fn ends(&self, place: usize) -> Result<(), Fault> {
-        if self.stage == Stage::Must || self.awaited != Awaited::Nothing {
+        if self.stage == Stage::Must || self.awaited.is_some() {
             return Err(refused(Reason::Unfinished, place));
         }
         if !self.pending.is_empty() {

@@ -5,6 +5,7 @@
 mod bodies;
 mod check;
 mod command;
+mod level;
 mod quotes;
 mod reader;
 mod settle;

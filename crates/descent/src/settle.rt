@@ -1,5 +1,8 @@
 // What a word is, once it has ended: its role, or the alias that stands for it.
-use super::command::{Awaited, Command, Pending, Stage};
+ghost use Rattle.std.specs.Prelude.{◌≡◌, ◌≤◌, OnOk};
+
+use super::command::{Awaited, Pending, Stage};
+use super::level::Level;
 use super::reader::Reader;
 use super::word::Word;
 use basics::refusal::Reason;
@@ -14,38 +17,37 @@ const MOST_PENDING: usize = 8;
 
 const LONGEST_DELIM: usize = 32;
 
-impl Reader {
-    fn give_word(&mut self, word: Word, role: Role, depth: usize) -> Result<(), Fault> {
-        let Word {
-            letters,
-            start: _,
-            place,
-            plain: _,
-            assign: _,
-        } = word;
-        self.give(Kind::Word(role), depth, letters, place)
+impl<'a> Reader<'a> {
+    fn give_word(&mut self, word: Word, role: Role, level: Level) -> Result<(), Fault>
+        ensures text { self.new.text ≡ self.old.text }
+        ensures replaced { self.new.replaced ≡ self.old.replaced }
+    {
+        let Word { letters, place, .. } = word;
+        self.give(Kind::Word(role), level, letters, place)
     }
 
-    // Gives the word its role. `number` says that it is an IO number, `within` how many replaced words it stands in.
+    // An IO number: digits directly before `<` or `>`.
+    pub fn settle_number(&mut self, word: Word, level: Level) -> Result<(), Fault>
+        ensures { self.new.text ≡ self.old.text }
+    {
+        if self.command.awaited.is_some() {
+            return Err(refused(Reason::OutOfPlace, word.start));
+        }
+        self.give_word(word, Role::Number, level)
+    }
+
+    // Gives any other word its role, or reads the value of the alias that stands for it.
     #[cycle(replace_settle)]
-    pub fn settle(
-        &mut self,
-        aliases: &[Alias],
-        command: &mut Command,
-        word: Word,
-        number: bool,
-        depth: usize,
-        within: usize,
-    ) -> Result<(), Fault> {
-        if command.awaited != Awaited::Nothing {
-            return self.settle_awaited(command, word, number, depth);
+    pub fn settle(&mut self, word: Word, level: Level) -> Result<(), Fault>
+        ensures text { OnOk result (self.new.text ≡ self.old.text) }
+        ensures replaced { OnOk result (self.old.replaced ≤ self.new.replaced) }
+    {
+        if let Some(awaited) = self.command.awaited.take() {
+            return self.settle_awaited(awaited, word, level);
         }
-        if number {
-            return self.give_word(word, Role::Number, depth);
-        }
-        match command.stage {
+        match self.command.stage {
             Stage::Done => return Err(refused(Reason::OutOfPlace, word.start)),
-            Stage::Args => return self.give_word(word, Role::Arg, depth),
+            Stage::Args => return self.give_word(word, Role::Arg, level),
             Stage::Start | Stage::Must => {
                 if word.is_reserved() {
                     return Err(refused(Reason::OutOfPlace, word.start));
@@ -54,79 +56,65 @@ impl Reader {
             Stage::Head => {}
         }
         if word.assign {
-            command.stage = Stage::Head;
-            return self.give_word(word, Role::Assign, depth);
+            self.command.stage = Stage::Head;
+            return self.give_word(word, Role::Assign, level);
         }
-        if let Some(index) = self.alias_of(aliases, &word) {
-            return self.replace(aliases, command, index, word.start, depth, within);
+        if let Some((index, alias)) = self.alias_of(&word) {
+            return self.replace(index, alias, word.start, level);
         }
-        command.stage = Stage::Args;
-        self.give_word(word, Role::Name, depth)
+        self.command.stage = Stage::Args;
+        self.give_word(word, Role::Name, level)
     }
 
-    // The alias that stands for the word, unless its value is being read.
-    fn alias_of(&self, aliases: &[Alias], word: &Word) -> Option<usize> {
-        for (i, alias) in aliases.iter().enumerate() {
-            if word.spells(alias.name.as_slice()) && !self.expanding.as_slice().contains(&i) {
-                return Some(i);
-            }
-        }
-        None
+    // The alias that stands for the word, and its number, unless its value is being read.
+    fn alias_of(&self, word: &Word) -> Option<(usize, &'a Alias)> {
+        let mut numbered = self.aliases.iter().enumerate();
+        numbered.find(|(index, alias)| {
+            word.spells(alias.name.as_slice()) && !self.expanding.contains(index)
+        })
     }
 
     // The words of the alias's value in the place of the word at `place`.
     #[cycle(replace_settle)]
     fn replace(
         &mut self,
-        aliases: &[Alias],
-        command: &mut Command,
         index: usize,
+        alias: &Alias,
         place: usize,
-        depth: usize,
-        within: usize,
-    ) -> Result<(), Fault> {
-        if self.replaced >= MOST_REPLACED || within >= MOST_REPLACED {
+        level: Level,
+    ) -> Result<(), Fault>
+        ensures text { OnOk result (self.new.text ≡ self.old.text) }
+        ensures replaced { OnOk result (self.old.replaced ≤ self.new.replaced) }
+    {
+        if self.replaced >= MOST_REPLACED {
             return Err(refused(Reason::TooManyReplacements, place));
         }
         self.replaced += 1;
         self.expanding.push(index)?;
-        let words = match aliases.get(index) {
-            Some(alias) => words_of(self.heap, alias.value.as_slice(), place)?,
-            None => Vec::new(self.heap),
-        };
-        for word in words {
-            self.settle(aliases, command, word, false, depth, within + 1)?;
+        for word in words_of(self.heap, alias.value.as_slice(), place)? {
+            self.settle(word, level)?;
         }
         let _ = self.expanding.pop();
         Ok(())
     }
 
     // The word that a redirection awaited.
-    fn settle_awaited(
-        &mut self,
-        command: &mut Command,
-        word: Word,
-        number: bool,
-        depth: usize,
-    ) -> Result<(), Fault> {
-        if number {
-            return Err(refused(Reason::OutOfPlace, word.start));
-        }
-        let role = match command.awaited {
-            Awaited::Nothing | Awaited::Target => Role::Target,
-            Awaited::Delim | Awaited::DelimTabs => Role::Delim,
-        };
-        if role == Role::Delim {
-            if self.pending >= MOST_PENDING {
-                return Err(refused(Reason::HereDocument, word.start));
+    fn settle_awaited(&mut self, awaited: Awaited, word: Word, level: Level) -> Result<(), Fault>
+        ensures text { self.new.text ≡ self.old.text }
+        ensures replaced { self.new.replaced ≡ self.old.replaced }
+    {
+        match awaited {
+            Awaited::Target => self.give_word(word, Role::Target, level),
+            Awaited::Delimiter { tabs } => {
+                if self.pending >= MOST_PENDING {
+                    return Err(refused(Reason::HereDocument, word.start));
+                }
+                let delim = delim_of(self.heap, &word)?;
+                self.pending += 1;
+                self.command.pending.push(Pending { delim, tabs })?;
+                self.give_word(word, Role::Delim, level)
             }
-            let delim = delim_of(self.heap, &word)?;
-            self.pending += 1;
-            let tabs = command.awaited == Awaited::DelimTabs;
-            command.pending.push(Pending { delim, tabs })?;
         }
-        command.awaited = Awaited::Nothing;
-        self.give_word(word, role, depth)
     }
 }
 
@@ -148,16 +136,18 @@ fn delim_of(heap: Global, word: &Word) -> Result<Vec<u8>, Fault> {
 // The words of an alias's value, all at the place of the word that they stand for.
 fn words_of(heap: Global, value: &[u8], place: usize) -> Result<Vec<Word>, Fault> {
     let mut words = Vec::new(heap);
-    let mut word = Word::new(heap, place);
-    for b in value {
-        if !is_blank(*b) {
-            word.bare(*b)?;
-        } else if !word.letters.is_empty() {
-            words.push(std::mem::replace(&mut word, Word::new(heap, place)))?;
+    for bytes in value.split(|b| is_blank(*b)) {
+        if !bytes.is_empty() {
+            words.push(word_of(heap, bytes, place)?)?;
         }
     }
-    if !word.letters.is_empty() {
-        words.push(word)?;
-    }
     Ok(words)
+}
+
+fn word_of(heap: Global, bytes: &[u8], place: usize) -> Result<Word, Fault> {
+    let mut word = Word::new(heap, place);
+    for b in bytes {
+        word.bare(*b)?;
+    }
+    Ok(word)
 }

@@ -1,8 +1,14 @@
 // A word while it is read.
-use descent_lexer::bytes::{begins_name, is_digit, is_in_name};
+use descent_lexer::bytes::{begins_name, is_in_name};
 use descent_lexer::fault::Fault;
 use descent_lexer::item::Letter;
 use std::alloc::Global;
+
+// The words that no command may begin with.
+const RESERVED: [&str; 15] = [
+    "!", "{", "}", "if", "then", "elif", "else", "fi", "while", "until", "do", "done", "for",
+    "case", "esac",
+];
 
 #[derive(Drop)]
 pub struct Word {
@@ -17,24 +23,10 @@ pub struct Word {
     pub assign: bool,
 }
 
-fn bare_byte(letter: Letter) -> Option<u8> {
-    match letter {
-        Letter::Bare(b) => Some(b),
-        _ => None,
-    }
-}
-
 // A name: a letter or `_`, then letters, digits and `_`, all bare.
 fn is_name(letters: &[Letter]) -> bool {
-    for (i, letter) in letters.iter().enumerate() {
-        let Some(b) = bare_byte(*letter) else {
-            return false;
-        };
-        if !is_in_name(b) || (i == 0 && !begins_name(b)) {
-            return false;
-        }
-    }
-    !letters.is_empty()
+    matches!(letters, [Letter::Bare(first), ..] if begins_name(*first))
+        && letters.iter().all(|letter| matches!(letter, Letter::Bare(b) if is_in_name(*b)))
 }
 
 impl Word {
@@ -64,50 +56,22 @@ impl Word {
     }
 
     pub fn is_number(&self) -> bool {
-        for letter in self.letters.iter() {
-            let Some(b) = bare_byte(*letter) else {
-                return false;
-            };
-            if !is_digit(b) {
-                return false;
-            }
-        }
         self.plain
+            && self.letters.iter().all(
+                |letter| matches!(letter, Letter::Bare(b) if b.is_ascii_digit()),
+            )
     }
 
     // Whether it is plain, and these bytes.
     pub fn spells(&self, bytes: &[u8]) -> bool {
-        if !self.plain || self.letters.len() != bytes.len() {
-            return false;
-        }
-        for (letter, b) in self.letters.iter().zip(bytes.iter()) {
-            if bare_byte(*letter) != Some(*b) {
-                return false;
-            }
-        }
-        true
+        let bare = bytes.iter().map(|b| Letter::Bare(*b));
+        self.plain && self.letters.iter().copied().eq(bare)
     }
 
     // A word that no command may begin with.
     pub fn is_reserved(&self) -> bool {
-        self.spells(b"!")
-            || self.spells(b"{")
-            || self.spells(b"}")
-            || self.spells(b"if")
-            || self.spells(b"then")
-            || self.spells(b"elif")
-            || self.spells(b"else")
-            || self.spells(b"fi")
-            || self.is_of_loops_or_cases()
-    }
-
-    fn is_of_loops_or_cases(&self) -> bool {
-        self.spells(b"while")
-            || self.spells(b"until")
-            || self.spells(b"do")
-            || self.spells(b"done")
-            || self.spells(b"for")
-            || self.spells(b"case")
-            || self.spells(b"esac")
+        RESERVED
+            .iter()
+            .any(|reserved| self.spells(reserved.as_bytes()))
     }
 }

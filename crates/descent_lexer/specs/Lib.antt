@@ -3,3 +3,4 @@ pub mod Roles
 pub mod Operators
 pub mod Kinds
 pub mod Letters
+pub mod Text

@@ -1,9 +1,8 @@
 // What a reading gives: items in order, and the refusal that ended it, if one did.
+// Stays: kinds, roles, operators and their numbers stand here as in the product, with which the second reader shares nothing but
+// the refusals.
 ghost use Rattle.std.specs.Prelude.{◌≡◌, ◌^◌, ◌<◌, ◌≤◌, None, vec_len};
-ghost use Rattle.descent_lexer.specs.Roles.{role_number};
-ghost use Rattle.descent_lexer.specs.Operators.{operator_number};
 ghost use Rattle.descent_lexer.specs.Kinds.{kind_number, code_number};
-ghost use Rattle.descent_lexer.specs.Letters.{letter_number};
 
 use basics::refusal::{Reason, Refusal};
 
@@ -14,36 +13,58 @@ pub struct Alias {
     pub value: Vec<u8>,
 }
 
+// What a word is there for, under the number that a record gives it.
 #[derive(Clone, Copy, PartialEq, Eq)]
 pub enum Role {
-    Name,
-    Arg,
-    Assign,
-    Target,
-    Delim,
-    Number,
+    Name = 1,
+    Arg = 2,
+    Assign = 3,
+    Target = 4,
+    Delim = 5,
+    Number = 6,
 }
 
+impl From<Role> for u8 {
+    ghost use Rattle.descent_lexer.specs.Roles.{role_number};
+
+    ghost from_gives = { λ role n. n ≡ role_number role };
+
+    fn from(role: Role) -> u8 {
+        role as u8
+    }
+}
+
+// The operators, under the numbers that records give them.
 #[derive(Clone, Copy, PartialEq, Eq)]
 pub enum Operator {
-    Newline,
-    And,
-    AndIf,
-    Pipe,
-    OrIf,
-    Semicolon,
-    DoubleSemicolon,
-    Open,
-    Close,
-    Less,
-    Great,
-    HereDocument,
-    Append,
-    LessAnd,
-    GreatAnd,
-    ReadWrite,
-    HereDocumentTabs,
-    Clobber,
+    Newline = 1,
+    And = 2,
+    AndIf = 3,
+    Pipe = 4,
+    OrIf = 5,
+    Semicolon = 6,
+    DoubleSemicolon = 7,
+    Open = 8,
+    Close = 9,
+    Less = 10,
+    Great = 11,
+    HereDocument = 12,
+    Append = 13,
+    LessAnd = 14,
+    GreatAnd = 15,
+    ReadWrite = 16,
+    HereDocumentTabs = 17,
+    Clobber = 18,
+}
+
+impl From<Operator> for u8 {
+    ghost use Rattle.descent_lexer.specs.Operators.{operator_number};
+
+    ghost from_gives = { λ operator n. n ≡ operator_number operator };
+
+    fn from(operator: Operator) -> u8 {
+        operator as u8
+    }
 }
 
 #[derive(Clone, Copy, PartialEq, Eq)]
@@ -66,48 +87,6 @@ pub enum Letter {
     Hole(u8),
 }
 
-impl Role {
-    pub fn number(self) -> u8
-        ensures { result ≡ role_number self }
-    {
-        match self {
-            Role::Name => 1,
-            Role::Arg => 2,
-            Role::Assign => 3,
-            Role::Target => 4,
-            Role::Delim => 5,
-            Role::Number => 6,
-        }
-    }
-}
-
-impl Operator {
-    pub fn number(self) -> u8
-        ensures { result ≡ operator_number self }
-    {
-        match self {
-            Operator::Newline => 1,
-            Operator::And => 2,
-            Operator::AndIf => 3,
-            Operator::Pipe => 4,
-            Operator::OrIf => 5,
-            Operator::Semicolon => 6,
-            Operator::DoubleSemicolon => 7,
-            Operator::Open => 8,
-            Operator::Close => 9,
-            Operator::Less => 10,
-            Operator::Great => 11,
-            Operator::HereDocument => 12,
-            Operator::Append => 13,
-            Operator::LessAnd => 14,
-            Operator::GreatAnd => 15,
-            Operator::ReadWrite => 16,
-            Operator::HereDocumentTabs => 17,
-            Operator::Clobber => 18,
-        }
-    }
-}
-
 impl Kind {
     pub fn number(self) -> u8
         ensures { result ≡ kind_number self }
@@ -127,19 +106,21 @@ impl Kind {
         ensures { result ≡ code_number self }
     {
         match self {
-            Kind::Word(role) => role.number(),
-            Kind::Operator(operator) => operator.number(),
+            Kind::Word(role) => u8::from(role),
+            Kind::Operator(operator) => u8::from(operator),
             Kind::Part | Kind::Open | Kind::Close | Kind::Body => 0,
         }
     }
 }
 
-impl Letter {
-    // As a sheet has it: the mark's number times 256, and the byte. A script has no holes.
-    pub fn number(self) -> u16
-        ensures { result ≡ letter_number self }
-    {
-        match self {
+// As a sheet has it: the mark's number times 256, and the byte. A script has no holes.
+impl From<Letter> for u16 {
+    ghost use Rattle.descent_lexer.specs.Letters.{letter_number};
+
+    ghost from_gives = { λ letter n. n ≡ letter_number letter };
+
+    fn from(letter: Letter) -> u16 {
+        match letter {
             Letter::Bare(b) => u16::from(b),
             Letter::Quoted(b) => 256 + u16::from(b),
             Letter::Expansion(b) => 512 + u16::from(b),
@@ -147,7 +128,9 @@ impl Letter {
             Letter::Hole(digit) => 1024 + u16::from(digit),
         }
     }
+}
 
+impl Letter {
     // The hole's bit in a mask of ten, or 0.
     fn hole_bit(self) -> u16
         ensures { result < 2 ^ 10 }
@@ -178,26 +161,18 @@ impl Reading {
     pub fn refusal_within(&self, records: usize, letters: usize) -> Option<Refusal>
         ensures { result ≡ None → vec_len self.now.items ≤ records }
     {
-        let mut room = letters;
-        for (i, item) in self.items.iter().enumerate() {
-            if i >= records || item.letters.len() > room {
-                return Some(Refusal {
-                    reason: Reason::NoRoom,
-                    place: 0,
-                });
-            }
-            room = room.saturating_sub(item.letters.len());
+        if self.items.len() > records || self.letters() > letters {
+            return Some(Reason::NoRoom.at(0));
         }
         self.refusal
     }
 
     // How many letters its items have.
     pub fn letters(&self) -> usize {
-        let mut count = 0usize;
-        for item in self.items.iter() {
-            count = count.saturating_add(item.letters.len());
-        }
-        count
+        self.items.iter().fold(
+            0,
+            |count: usize, item| count.saturating_add(item.letters.len()),
+        )
     }
 
     // The holes among the letters, as a mask: hole 0 is the lowest bit.

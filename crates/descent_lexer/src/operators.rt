@@ -1,13 +1,17 @@
 // Which operator comes.
-use super::item::Operator;
-use super::text::{Sign, Text};
+ghost use Rattle.std.specs.Prelude.{◌≡◌, ◌≤◌, is_some};
+ghost use Rattle.descent_lexer.specs.Bytes.{begins_operator};
+ghost use Rattle.descent_lexer.specs.Text.{left};
 
-// The longest operator that the text begins with; a newline and the parentheses are complete at once.
-pub fn take_operator(text: &mut Text) -> Option<Operator> {
-    let Some(Sign::Byte(first)) = text.peek() else {
-        return None;
-    };
-    text.skip();
+use super::item::Operator;
+use super::text::Text;
+
+// The longest operator that begins with the byte `first`, which the text has just passed over; a newline and the
+// parentheses are complete at once.
+pub fn operator_after(first: u8, text: &mut Text) -> Option<Operator>
+    ensures known { is_some result ≡ begins_operator first }
+    ensures on { left text.new ≤ left text.old }
+{
     match first {
         b'\n' => Some(Operator::Newline),
         b'(' => Some(Operator::Open),
@@ -21,11 +25,15 @@ pub fn take_operator(text: &mut Text) -> Option<Operator> {
     }
 }
 
-fn doubled(text: &mut Text, next: u8, long: Operator, short: Operator) -> Operator {
+fn doubled(text: &mut Text, next: u8, long: Operator, short: Operator) -> Operator
+    ensures { left text.new ≤ left text.old }
+{
     if text.takes(next) { long } else { short }
 }
 
-fn after_less(text: &mut Text) -> Operator {
+fn after_less(text: &mut Text) -> Operator
+    ensures { left text.new ≤ left text.old }
+{
     if text.takes(b'<') {
         return doubled(
             text,
@@ -40,7 +48,9 @@ fn after_less(text: &mut Text) -> Operator {
     doubled(text, b'>', Operator::ReadWrite, Operator::Less)
 }
 
-fn after_great(text: &mut Text) -> Operator {
+fn after_great(text: &mut Text) -> Operator
+    ensures { left text.new ≤ left text.old }
+{
     if text.takes(b'>') {
         return Operator::Append;
     }

@@ -1,9 +1,9 @@
 // Names and values of aliases.
-ghost use Rattle.std.specs.Prelude.{◌≤◌, vec_len, OnOk};
+ghost use Rattle.std.specs.Prelude.{◌≤◌, vec_len, length, OnOk};
 
 use super::grammar::Scripts;
-use super::words;
-use super::words::put;
+use super::words::{ALIAS_WORDS, COMMAND_NAMES, put};
+use random::Numbers;
 use std::alloc::AllocError;
 
 impl Scripts {
@@ -12,8 +12,13 @@ impl Scripts {
         ensures { OnOk result (vec_len out.new ≤ 16) }
     {
         out.clear();
-        let n = self.random.below(words::COMMAND_NAMES);
-        put(out, words::command_name(n))
+        put(out, self.some_name())
+    }
+
+    fn some_name(&mut self) -> &'static str
+        ensures { length result.now ≤ 16 }
+    {
+        *self.random.pick(&COMMAND_NAMES)
     }
 
     // Puts an alias's value in `out`: a few words, with blanks between them and around them.
@@ -23,8 +28,7 @@ impl Scripts {
             put(out, "\t")?;
         }
         for _ in 0..=self.random.below(3) {
-            let n = self.random.below(words::ALIAS_WORDS);
-            put(out, words::alias_word(n))?;
+            self.put_one(out, &ALIAS_WORDS)?;
             put(out, " ")?;
         }
         if self.random.once_in(2) {

@@ -1,9 +1,10 @@
 // Damage to a text: bytes dropped, changed, swapped or put in, its end cut off, or a part of another text put in.
 use super::grammar::Scripts;
+use random::Numbers;
 use std::alloc::AllocError;
 
 // The bytes that mean something to a reader.
-const TELLING: &str = "a1 \t\n'\"\\$(){}`&|;<>#=-@!";
+const TELLING: &[u8] = b"a1 \t\n'\"\\$(){}`&|;<>#=-@!";
 
 impl Scripts {
     // Damages `out` in one to three ways.
@@ -44,17 +45,17 @@ impl Scripts {
     }
 
     fn telling(&mut self) -> u8 {
-        let n = self.random.below(TELLING.len());
-        TELLING.as_bytes().get(n).copied().unwrap_or(b'a')
+        *self.random.pick(TELLING)
     }
 
     fn damage_once(&mut self, out: &mut Vec<u8>) -> Result<(), AllocError> {
         let at = self.random.below(out.len());
         let b = self.telling();
-        if at >= out.len() {
+        if out.is_empty() {
             out.push(b)?;
             return Ok(());
         }
+        // Stays: a match on the number that was drawn, as in the grammar.
         match self.random.below(6) {
             0 => {
                 let _ = out.remove(at);
@@ -63,18 +64,10 @@ impl Scripts {
             2 => out.truncate(at),
             3 => {
                 let other = self.random.below(out.len());
-                if other < out.len() {
-                    out.swap(at, other);
-                }
+                out.swap(at, other);
             }
-            _ => change(out, at, b),
+            _ => out[at] = b,
         }
         Ok(())
-    }
-}
-
-fn change(out: &mut Vec<u8>, at: usize, b: u8) {
-    if let Some(old) = out.get_mut(at) {
-        *old = b;
     }
 }

@@ -1,6 +1,7 @@
 // Scripts at the edges of what is taken: frames, pending here-documents, long delimiters and many replacements.
 use super::grammar::Scripts;
 use super::words::put;
+use random::Numbers;
 use std::alloc::AllocError;
 
 fn repeat(out: &mut Vec<u8>, text: &str, times: usize) -> Result<(), AllocError> {
@@ -11,46 +12,63 @@ fn repeat(out: &mut Vec<u8>, text: &str, times: usize) -> Result<(), AllocError>
 }
 
 // What stands in the innermost of many frames.
-fn inmost(n: usize) -> &'static str {
-    match n {
-        0 => "a",
-        1 => "a 'b'",
-        2 => "a \"b\"",
-        3 => "a $(b)",
-        4 => "(a)",
-        5 => "a <<E\nE\n",
-        6 => "a $((",
-        7 => "a <<$(b)",
-        8 => "a ${x}`",
-        9 => "a @{0}",
-        10 => "@{1}",
-        _ => "a;",
-    }
+const INMOST: [&str; 12] = [
+    "a",
+    "a 'b'",
+    "a \"b\"",
+    "a $(b)",
+    "(a)",
+    "a <<E\nE\n",
+    "a $((",
+    "a <<$(b)",
+    "a ${x}`",
+    "a @{0}",
+    "@{1}",
+    "a;",
+];
+
+// A way to open frames and to close them again.
+#[derive(Clone, Copy)]
+struct Way {
+    opener: &'static str,
+    closer: &'static str,
+    // how often it opens at the least, which comes near to the most frames
+    least: usize,
 }
 
-// Ways to open a frame or two, and to close them again.
-fn opener(n: usize) -> &'static str {
-    match n {
-        0 => "(",
-        1 => "$(",
-        2 => "\"$(",
-        3 => "a \"$(",
-        _ => "x=$(",
-    }
-}
-
-fn closer(n: usize) -> &'static str {
-    match n {
-        0 | 1 => ")",
-        2 | 3 => ")\"",
-        _ => ") b",
-    }
-}
+const WAYS: [Way; 5] = [
+    Way {
+        opener: "(",
+        closer: ")",
+        least: 29,
+    },
+    Way {
+        opener: "$(",
+        closer: ")",
+        least: 29,
+    },
+    Way {
+        opener: "\"$(",
+        closer: ")\"",
+        least: 14,
+    },
+    Way {
+        opener: "a \"$(",
+        closer: ")\"",
+        least: 14,
+    },
+    Way {
+        opener: "x=$(",
+        closer: ") b",
+        least: 29,
+    },
+];
 
 impl Scripts {
     // Puts a script at one of the edges in `out`.
     pub fn edge(&mut self, out: &mut Vec<u8>) -> Result<(), AllocError> {
         out.clear();
+        // Stays: a match on the number that was drawn, as in the grammar.
         match self.random.below(12) {
             0 => self.many_pending(out),
             1 => self.long_delimiter(out),
@@ -62,14 +80,12 @@ impl Scripts {
     }
 
     fn deep(&mut self, out: &mut Vec<u8>) -> Result<(), AllocError> {
-        let kind = self.random.below(5);
-        let frames = if kind == 2 || kind == 3 { 14 } else { 29 };
-        let times = frames + self.random.below(5);
-        repeat(out, opener(kind), times)?;
-        let within = self.random.below(12);
-        put(out, inmost(within))?;
+        let way = self.random.pick(&WAYS);
+        let times = way.least + self.random.below(5);
+        repeat(out, way.opener, times)?;
+        self.put_one(out, &INMOST)?;
         let closed = times - self.random.below(2);
-        repeat(out, closer(kind), closed)
+        repeat(out, way.closer, closed)
     }
 
     fn many_pending(&mut self, out: &mut Vec<u8>) -> Result<(), AllocError> {

@@ -1,10 +1,12 @@
 // Pseudo-random scripts and templates, from a small grammar: lists, pipes, groups, words, quotes, substitutions,
 // redirections and here-documents.
-ghost use Rattle.std.specs.Prelude.{◌≡◌, false, vec_len};
+ghost use Rattle.std.specs.Prelude.{◌≡◌, ◌<◌, false, length, vec_len};
 
-use super::words;
-use super::words::put;
-use random::Random;
+use super::words::{
+    ASSIGNMENTS, BLANKS, BODY_LINES, COMMAND_NAMES, CONNECTORS, DELIMITERS, ESCAPES, EXPANSIONS,
+    PLAINS, QUOTED, REDIRECTIONS, RESERVED, put,
+};
+use random::{Numbers, Random};
 use std::alloc::{AllocError, Global};
 
 // Substitutions and groups nest at most so deep.
@@ -16,8 +18,8 @@ pub struct Scripts {
     pub random: Random,
     // whether words may have holes
     holes: bool,
-    // here-documents whose bodies are to come: which delimiter each has
-    pending: Vec<usize>,
+    // here-documents whose bodies are to come: the line that ends each
+    pending: Vec<&'static str>,
 }
 
 impl Scripts {
@@ -50,6 +52,13 @@ impl Scripts {
         self.commands(out, left)
     }
 
+    // Puts one of these texts in `out`.
+    pub(crate) fn put_one(&mut self, out: &mut Vec<u8>, texts: &[&str]) -> Result<(), AllocError>
+        requires { 0 < length texts.now }
+    {
+        put(out, self.random.pick(texts))
+    }
+
     // Commands and what parts them, and then the bodies that are still to come.
     #[cycle(command_commands_double_quotes_head_piece_redirection_substitution_word)]
     fn commands(&mut self, out: &mut Vec<u8>, left: usize) -> Result<(), AllocError> {
@@ -70,8 +79,7 @@ impl Scripts {
         if self.random.once_in(3) {
             return self.newline(out);
         }
-        let n = self.random.below(words::CONNECTORS);
-        put(out, words::connector(n))?;
+        self.put_one(out, &CONNECTORS)?;
         if self.random.once_in(6) {
             self.newline(out)?;
         }
@@ -85,21 +93,19 @@ impl Scripts {
         }
         put(out, "\n")?;
         let due = std::mem::replace(&mut self.pending, Vec::new(self.heap));
-        for which in due {
+        for line in due {
             for _ in 0..self.random.below(3) {
-                let n = self.random.below(words::BODY_LINES);
-                put(out, words::body_line(n))?;
+                self.put_one(out, &BODY_LINES)?;
                 put(out, "\n")?;
             }
-            put(out, words::delimiter_line(which))?;
+            put(out, line)?;
             put(out, "\n")?;
         }
         Ok(())
     }
 
     fn blank(&mut self, out: &mut Vec<u8>) -> Result<(), AllocError> {
-        let n = self.random.below(9);
-        put(out, words::blank(n))
+        self.put_one(out, &BLANKS)
     }
 
     #[cycle(command_commands_double_quotes_head_piece_redirection_substitution_word)]
@@ -125,19 +131,16 @@ impl Scripts {
     // A name, or once in a while a reserved word.
     fn command_name(&mut self, out: &mut Vec<u8>) -> Result<(), AllocError> {
         if self.random.once_in(40) {
-            let n = self.random.below(words::RESERVED);
-            return put(out, words::reserved(n));
+            return self.put_one(out, &RESERVED);
         }
-        let n = self.random.below(words::COMMAND_NAMES);
-        put(out, words::command_name(n))
+        self.put_one(out, &COMMAND_NAMES)
     }
 
     // Assignments and redirections before a name.
     #[cycle(command_commands_double_quotes_head_piece_redirection_substitution_word)]
     fn head(&mut self, out: &mut Vec<u8>, left: usize) -> Result<(), AllocError> {
         if self.random.once_in(4) {
-            let n = self.random.below(words::ASSIGNMENTS);
-            put(out, words::assignment(n))?;
+            self.put_one(out, &ASSIGNMENTS)?;
             self.word(out, left)?;
             self.blank(out)?;
         }
@@ -159,8 +162,7 @@ impl Scripts {
         if self.random.once_in(3) {
             return self.here_document(out);
         }
-        let n = self.random.below(words::REDIRECTIONS);
-        put(out, words::redirection(n))?;
+        self.put_one(out, &REDIRECTIONS)?;
         if self.random.once_in(3) {
             self.blank(out)?;
         }
@@ -175,9 +177,9 @@ impl Scripts {
         if self.random.once_in(3) {
             self.blank(out)?;
         }
-        let which = self.random.below(words::DELIMITERS);
-        self.pending.push(which)?;
-        put(out, words::delimiter(which))
+        let delimiter = self.random.pick(&DELIMITERS);
+        self.pending.push(delimiter.line)?;
+        put(out, delimiter.written)
     }
 
     #[cycle(command_commands_double_quotes_head_piece_redirection_substitution_word)]
@@ -194,6 +196,8 @@ impl Scripts {
         if self.holes && self.random.once_in(4) {
             return self.hole(out);
         }
+        // Stays: a match on the number that was drawn, since the arms show how often each is taken, and call with different
+        // arguments; so do the other choices that are drawn.
         match self.random.below(12) {
             0 => self.single_quotes(out),
             1 | 2 => self.double_quotes(out, left),
@@ -201,10 +205,7 @@ impl Scripts {
             4 => put(out, "\\\nx"),
             5 | 6 => self.expansion(out),
             7 => self.substitution(out, left),
-            _ => {
-                let n = self.random.below(words::PLAINS);
-                put(out, words::plain(n))
-            }
+            _ => self.put_one(out, &PLAINS),
         }
     }
 
@@ -216,8 +217,7 @@ impl Scripts {
     }
 
     fn expansion(&mut self, out: &mut Vec<u8>) -> Result<(), AllocError> {
-        let n = self.random.below(words::EXPANSIONS);
-        put(out, words::expansion(n))
+        self.put_one(out, &EXPANSIONS)
     }
 
     #[cycle(command_commands_double_quotes_head_piece_redirection_substitution_word)]
@@ -233,8 +233,7 @@ impl Scripts {
     fn single_quotes(&mut self, out: &mut Vec<u8>) -> Result<(), AllocError> {
         put(out, "'")?;
         for _ in 0..self.random.below(3) {
-            let n = self.random.below(words::QUOTED);
-            put(out, words::quoted(n))?;
+            self.put_one(out, &QUOTED)?;
         }
         put(out, "'")
     }
@@ -246,14 +245,8 @@ impl Scripts {
             match self.random.below(6) {
                 0 => self.substitution(out, left)?,
                 1 => self.expansion(out)?,
-                2 => {
-                    let n = self.random.below(words::ESCAPES);
-                    put(out, words::escape(n))?;
-                }
-                _ => {
-                    let n = self.random.below(words::QUOTED);
-                    put(out, words::quoted(n))?;
-                }
+                2 => self.put_one(out, &ESCAPES)?,
+                _ => self.put_one(out, &QUOTED)?,
             }
         }
         put(out, "\"")
