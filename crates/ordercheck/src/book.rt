@@ -1,13 +1,13 @@
 // The second book of an order, written from the rules: maps of aliases and texts, and the template. It makes every
 // check itself, and has the second reader read what is loaded and listed.
 use super::request::Request;
-use super::slots::Slots;
 use super::spelling::check_alias;
 use basics::refusal::Reason;
+use comparing::slots::Slots;
 use descent::{read_script, read_template};
 use descent_lexer::fault::{Fault, refused};
 use descent_lexer::item::{Alias, Reading};
-use orders::outcome::Outcome;
+use orders::outcome::{Done, Outcome};
 use std::alloc::{AllocError, Global};
 use std::collections::BTreeMap;
 use std::fmt;
@@ -35,15 +35,26 @@ impl Book {
         }
     }
 
-    // Makes a call, with a list going to these slots, and tells what it is to say.
+    // Makes a call, with a list going to these slots, and tells what it is to say, unless there was no memory for it.
     pub fn answer(&mut self, request: &Request, slots: &mut Slots) -> Result<Outcome, AllocError> {
-        match request {
-            Request::Alias { name, value } => said(self.alias(name.as_slice(), value.as_slice())),
-            Request::Unalias { name } => said(self.unalias(name.as_slice())),
-            Request::Load { template } => said(self.load(template.as_slice())),
-            Request::Unload => said(self.unload()),
-            Request::List { script } => said(self.list(script.as_slice(), slots)),
+        match self.make(request, slots) {
+            Ok(done) => Ok(Ok(done)),
+            Err(fault) => Ok(Err(fault.refusal()?)),
         }
+    }
+
+    fn make(&mut self, request: &Request, slots: &mut Slots) -> Result<Done, Fault> {
+        match request {
+            Request::Alias { name, value } => self.alias(name.as_slice(), value.as_slice())?,
+            Request::Unalias { name } => self.unalias(name.as_slice())?,
+            Request::Load { template } => self.load(template.as_slice())?,
+            Request::Unload => self.unload()?,
+            Request::List { script } => {
+                let added = self.list(script.as_slice(), slots)?;
+                return Ok(Done::Listed(added));
+            }
+        }
+        Ok(Done::Accepted)
     }
 
     fn none_loaded(&self) -> Result<(), Fault> {
@@ -53,7 +64,7 @@ impl Book {
         }
     }
 
-    fn alias(&mut self, name: &[u8], value: &[u8]) -> Result<Outcome, Fault> {
+    fn alias(&mut self, name: &[u8], value: &[u8]) -> Result<(), Fault> {
         self.none_loaded()?;
         check_alias(name, value)?;
         if !self.aliases.contains_key(name) && self.aliases.len() >= MOST_ALIASES {
@@ -62,18 +73,18 @@ impl Book {
         let name = Vec::from_slice(self.heap, name)?;
         let value = Vec::from_slice(self.heap, value)?;
         self.aliases.insert(name, value)?;
-        Ok(Outcome::Accepted)
+        Ok(())
     }
 
-    fn unalias(&mut self, name: &[u8]) -> Result<Outcome, Fault> {
+    fn unalias(&mut self, name: &[u8]) -> Result<(), Fault> {
         self.none_loaded()?;
         match self.aliases.remove(name) {
-            Some(_) => Ok(Outcome::Accepted),
+            Some(_) => Ok(()),
             None => Err(refused(Reason::NoSuchAlias, 0)),
         }
     }
 
-    fn load(&mut self, template: &[u8]) -> Result<Outcome, Fault> {
+    fn load(&mut self, template: &[u8]) -> Result<(), Fault> {
         self.none_loaded()?;
         let aliases = self.alias_list()?;
         let reading = read_template(self.heap, template, aliases.as_slice())?;
@@ -82,22 +93,21 @@ impl Book {
         }
         let template = Vec::from_slice(self.heap, template)?;
         self.template = Some(template);
-        Ok(Outcome::Accepted)
+        Ok(())
     }
 
-    fn unload(&mut self) -> Result<Outcome, Fault> {
+    fn unload(&mut self) -> Result<(), Fault> {
         if self.template.is_none() {
             return Err(refused(Reason::NoTemplate, 0));
         }
         self.template = None;
         self.texts.clear();
-        Ok(Outcome::Accepted)
+        Ok(())
     }
 
-    fn list(&self, script: &[u8], slots: &mut Slots) -> Result<Outcome, Fault> {
+    fn list(&self, script: &[u8], slots: &mut Slots) -> Result<usize, Fault> {
         let reading = self.reading(script)?;
-        let added = slots.receive(&reading)?;
-        Ok(Outcome::Listed(added))
+        slots.receive(&reading)?.map_err(Fault::Refused)
     }
 
     // A script as it reads under the aliases.
@@ -118,15 +128,6 @@ impl Book {
     }
 }
 
-// What a call says, unless there was no memory for it.
-fn said(answer: Result<Outcome, Fault>) -> Result<Outcome, AllocError> {
-    match answer {
-        Ok(outcome) => Ok(outcome),
-        Err(Fault::Refused(refusal)) => Ok(Outcome::Refused(refusal)),
-        Err(Fault::Memory) => Err(AllocError),
-    }
-}
-
 impl fmt::Display for Book {
     fn fmt<W: fmt::Write>(&self, f: &mut fmt::Formatter<W>) -> fmt::Result {
         for (name, value) in self.aliases.iter() {
@@ -135,10 +136,7 @@ impl fmt::Display for Book {
             write!(f, "alias {name}=\"{value}\", ")?;
         }
         match &self.template {
-            Some(template) => {
-                let template = template.as_slice().escape_ascii();
-                write!(f, "template \"{template}\"")
-            }
+            Some(template) => write!(f, "template \"{}\"", template.as_slice().escape_ascii()),
             None => write!(f, "no template"),
         }
     }

@@ -1,15 +1,12 @@
 // Calls on which the product and the second book do not agree.
-ghost use Rattle.std.specs.Prelude.{◌≡◌, ◌+◌, ◌^◌, ◌<◌};
-
 use super::book::Book;
-use super::desk::Desk;
+use super::desk::OwnDesk;
 use super::request::Request;
-use orders::outcome::Outcome;
+use basics::refusal::Refusal;
+use comparing::differences::Said;
+use orders::outcome::{Done, Outcome};
 use std::alloc::{AllocError, Global};
 use std::fmt;
-
-// So many are kept to be looked at.
-const KEPT: usize = 3;
 
 // How the product was called.
 #[derive(Clone, Copy)]
@@ -19,37 +16,40 @@ pub enum Way {
     Make,
 }
 
-impl Way {
-    fn words(self) -> &'static str {
-        match self {
+impl fmt::Display for Way {
+    fn fmt<W: fmt::Write>(&self, f: &mut fmt::Formatter<W>) -> fmt::Result {
+        f.write_str(match self {
             Way::Replay => "replay",
             Way::Run => "run",
             Way::Make => "make",
+        })
+    }
+}
+
+// What a call says that is made, to be shown.
+#[derive(Clone, Copy)]
+struct Shown(Done);
+
+impl fmt::Display for Shown {
+    fn fmt<W: fmt::Write>(&self, f: &mut fmt::Formatter<W>) -> fmt::Result {
+        match self.0 {
+            Done::Accepted => write!(f, "accepted"),
+            Done::Rendered(length) => write!(f, "rendered {length}"),
+            Done::Listed(count) => write!(f, "listed {count}"),
         }
     }
 }
 
-// What a call says, to be shown.
-#[derive(Clone, Copy)]
-struct Said(Outcome);
-
-impl fmt::Display for Said {
-    fn fmt<W: fmt::Write>(&self, f: &mut fmt::Formatter<W>) -> fmt::Result {
-        match self.0 {
-            Outcome::Accepted => write!(f, "accepted"),
-            Outcome::Rendered(length) => write!(f, "rendered {length}"),
-            Outcome::Listed(count) => write!(f, "listed {count}"),
-            Outcome::Refused(refusal) => write!(f, "refused {refusal}"),
-        }
-    }
+fn said(outcome: &Outcome) -> Said<Shown> {
+    Said(outcome.map(Shown))
 }
 
 // What a call said, and what it was to say.
 #[derive(Clone, Copy)]
 struct Unlike {
     call: usize,
-    product: Outcome,
-    book: Outcome,
+    product: Said<Shown>,
+    book: Said<Shown>,
 }
 
 #[derive(Drop)]
@@ -63,40 +63,53 @@ pub struct Difference {
     unlike: Option<Unlike>,
 }
 
+impl Difference {
+    pub fn new(
+        heap: Global,
+        order: u64,
+        way: Way,
+        requests: &[Request],
+        book: &Book,
+        desks: (&OwnDesk, &OwnDesk),
+    ) -> Result<Self, AllocError> {
+        Ok(Difference {
+            order,
+            way,
+            calls: written(heap, requests)?,
+            book: format!(in heap; "{book}")?,
+            unlike: first_unlike(desks.0, desks.1),
+        })
+    }
+}
+
 impl fmt::Display for Difference {
     fn fmt<W: fmt::Write>(&self, f: &mut fmt::Formatter<W>) -> fmt::Result {
-        let order = self.order;
-        let way = self.way.words();
-        let calls = self.calls.as_str();
-        let book = self.book.as_str();
-        write!(f, "order {order}, by {way}: {calls}then {book}; ")?;
+        write!(
+            f,
+            "order {}, by {}: {}then {}; ",
+            self.order, self.way, self.calls, self.book
+        )?;
         match self.unlike {
-            Some(unlike) => {
-                let call = unlike.call;
-                let product = Said(unlike.product);
-                let book = Said(unlike.book);
-                write!(
-                    f,
-                    "call {call}: the product: {product}; the second book: {book}"
-                )
-            }
+            Some(unlike) => write!(
+                f,
+                "call {}: the product: {}; the second book: {}",
+                unlike.call, unlike.product, unlike.book
+            ),
             None => write!(f, "the page or the sheet is another"),
         }
     }
 }
 
-fn first_unlike(product: &Desk, book: &Desk) -> Option<Unlike> {
+fn first_unlike(product: &OwnDesk, book: &OwnDesk) -> Option<Unlike> {
     let pairs = product.outcomes.iter().zip(book.outcomes.iter());
-    for (call, (product, book)) in pairs.enumerate() {
-        if product != book {
-            return Some(Unlike {
-                call,
-                product: *product,
-                book: *book,
-            });
-        }
-    }
-    None
+    pairs
+        .enumerate()
+        .find(|(_, (product, book))| product != book)
+        .map(|(call, (product, book))| Unlike {
+            call,
+            product: said(product),
+            book: said(book),
+        })
 }
 
 fn written(heap: Global, requests: &[Request]) -> Result<String, AllocError> {
@@ -106,49 +119,4 @@ fn written(heap: Global, requests: &[Request]) -> Result<String, AllocError> {
         all.push_str(call.as_str())?;
     }
     Ok(all)
-}
-
-// How many there are, and the first few.
-#[derive(Drop)]
-pub struct Differences {
-    heap: Global,
-    pub count: u64,
-    pub first: Vec<Difference>,
-}
-
-impl Differences {
-    pub fn new(heap: Global) -> Differences {
-        Differences {
-            heap,
-            count: 0,
-            first: Vec::new(heap),
-        }
-    }
-
-    // Counts a difference, and keeps it if it is one of the first few.
-    pub fn add(
-        &mut self,
-        order: u64,
-        way: Way,
-        requests: &[Request],
-        book: &Book,
-        product_desk: &Desk,
-        book_desk: &Desk,
-    ) -> Result<(), AllocError>
-        ensures { self.old.count + 1 < 2 ^ 64 → self.new.count ≡ self.old.count + 1 }
-    {
-        self.count = self.count.saturating_add(1);
-        if self.first.len() < KEPT {
-            let calls = written(self.heap, requests)?;
-            let shown = format!(in self.heap; "{book}")?;
-            self.first.push(Difference {
-                order,
-                way,
-                calls,
-                book: shown,
-                unlike: first_unlike(product_desk, book_desk),
-            })?;
-        }
-        Ok(())
-    }
 }

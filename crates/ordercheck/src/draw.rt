@@ -1,7 +1,10 @@
 // Draws calls, so that those that are accepted and those that are refused, for every reason, come often.
-use super::names::{GOOD_NAMES, ODD_NAMES, ODD_VALUES, good_name, odd_name, odd_value};
-use super::request::{CallKind, Request};
-use scripts::{Scripts, example};
+ghost use Rattle.std.specs.Prelude.{◌<◌, length};
+
+use super::names::{BAD_HOLES, GOOD_NAMES, ODD_NAMES, ODD_VALUES};
+use super::request::Request;
+use random::Numbers;
+use scripts::{EXAMPLES, Scripts};
 use std::alloc::{AllocError, Global};
 
 // An order has fewer calls than this.
@@ -10,8 +13,6 @@ const CALLS: usize = 60;
 const LONGEST_TEMPLATE: usize = 1024;
 
 const LONGEST_SCRIPT: usize = 4096;
-
-const EXAMPLES: usize = 100;
 
 #[derive(Drop)]
 pub struct Draw {
@@ -34,7 +35,9 @@ impl Draw {
     }
 
     // How many calls are made next: one as often as more.
-    pub fn few(&mut self) -> usize {
+    pub fn few(&mut self) -> usize
+        ensures { 0 < result }
+    {
         if self.once_in(2) {
             1
         } else {
@@ -53,39 +56,38 @@ impl Draw {
         Ok(all)
     }
 
-    fn kind(&mut self, kinds: usize) -> CallKind {
-        match self.below(kinds) {
-            0..3 => CallKind::Unalias,
-            3..6 => CallKind::Load,
-            6..9 => CallKind::Unload,
-            9..14 => CallKind::List,
-            _ => CallKind::Alias,
-        }
-    }
-
+    // Stays: here and below a match on a drawn number, whose ranges are the weights; a table of closures would say no more.
     fn request(&mut self, kinds: usize) -> Result<Request, AllocError> {
-        let request = match self.kind(kinds) {
-            CallKind::Alias => Request::Alias {
-                name: self.name()?,
-                value: self.value()?,
-            },
-            CallKind::Unalias => Request::Unalias { name: self.name()? },
-            CallKind::Load => Request::Load {
+        let request = match self.below(kinds) {
+            0..3 => Request::Unalias { name: self.name()? },
+            3..6 => Request::Load {
                 template: self.template()?,
             },
-            CallKind::Unload => Request::Unload,
-            CallKind::List => Request::List {
+            6..9 => Request::Unload,
+            9..14 => Request::List {
                 script: self.script()?,
+            },
+            _ => Request::Alias {
+                name: self.name()?,
+                value: self.value()?,
             },
         };
         Ok(request)
     }
 
+    // Puts one of these texts behind what is there.
+    fn put_one(&mut self, out: &mut Vec<u8>, texts: &[&str]) -> Result<(), AllocError>
+        requires { 0 < length texts.now }
+    {
+        let text = self.scripts.random.pick(texts);
+        out.extend_from_slice(text.as_bytes())
+    }
+
     fn name(&mut self) -> Result<Vec<u8>, AllocError> {
         let mut name = Vec::new(self.heap);
         match self.below(12) {
-            0 => put(&mut name, odd_name(self.below(ODD_NAMES)))?,
-            1..6 => put(&mut name, good_name(self.below(GOOD_NAMES)))?,
+            0 => self.put_one(&mut name, &ODD_NAMES)?,
+            1..6 => self.put_one(&mut name, &GOOD_NAMES)?,
             _ => self.scripts.alias_name(&mut name)?,
         }
         if self.once_in(20) {
@@ -97,7 +99,7 @@ impl Draw {
     fn value(&mut self) -> Result<Vec<u8>, AllocError> {
         let mut value = Vec::new(self.heap);
         match self.below(10) {
-            0 => put(&mut value, odd_value(self.below(ODD_VALUES)))?,
+            0 => self.put_one(&mut value, &ODD_VALUES)?,
             1 => value.resize(62 + self.scripts.random.below(5), b'a')?,
             _ => self.scripts.alias_value(&mut value)?,
         }
@@ -111,14 +113,14 @@ impl Draw {
         let mut template = Vec::new(self.heap);
         match self.below(12) {
             0 => self.scripts.edge(&mut template)?,
-            1 => self.example(&mut template)?,
+            1 => self.put_one(&mut template, &EXAMPLES)?,
             2 => self.put_many(&mut template)?,
             _ => self.scripts.template(&mut template)?,
         }
         match self.below(12) {
             0..3 => self.scripts.damage(&mut template)?,
             3 => self.lengthen(&mut template, LONGEST_TEMPLATE)?,
-            4 => self.put_bad_hole(&mut template)?,
+            4 => self.put_one(&mut template, &BAD_HOLES)?,
             5 => self.put_zero(&mut template),
             _ => {}
         }
@@ -129,7 +131,7 @@ impl Draw {
         let mut script = Vec::new(self.heap);
         match self.below(12) {
             0 => self.scripts.edge(&mut script)?,
-            1 => self.example(&mut script)?,
+            1 => self.put_one(&mut script, &EXAMPLES)?,
             2 => self.put_many(&mut script)?,
             3 => self.scripts.template(&mut script)?,
             _ => self.scripts.script(&mut script)?,
@@ -143,20 +145,13 @@ impl Draw {
         Ok(script)
     }
 
-    fn example(&mut self, out: &mut Vec<u8>) -> Result<(), AllocError> {
-        match example(self.below(EXAMPLES)) {
-            Some(text) => put(out, text),
-            None => Ok(()),
-        }
-    }
-
     // About as many commands of one name as may be replaced.
     fn put_many(&mut self, out: &mut Vec<u8>) -> Result<(), AllocError> {
         let mut name = Vec::new(self.heap);
         self.scripts.alias_name(&mut name)?;
         for _ in 0..60 + self.scripts.random.below(9) {
             out.extend_from_slice(name.as_slice())?;
-            put(out, ";")?;
+            out.push(b';')?;
         }
         Ok(())
     }
@@ -181,20 +176,6 @@ impl Draw {
         }
         Ok(())
     }
-
-    fn put_bad_hole(&mut self, out: &mut Vec<u8>) -> Result<(), AllocError> {
-        match self.below(5) {
-            0 => put(out, " @{x}"),
-            1 => put(out, " @{10}"),
-            2 => put(out, " @{1"),
-            3 => put(out, "@{"),
-            _ => put(out, " @{@{1}}"),
-        }
-    }
-}
-
-fn put(out: &mut Vec<u8>, text: &str) -> Result<(), AllocError> {
-    out.extend_from_slice(text.as_bytes())
 }
 
 fn set(out: &mut Vec<u8>, at: usize, b: u8) {

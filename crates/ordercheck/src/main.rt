@@ -10,7 +10,6 @@ mod draw;
 mod layout;
 mod names;
 mod request;
-mod slots;
 mod spelling;
 mod tally;
 
@@ -32,9 +31,5 @@ fn main(rt: HostRuntime) -> io::Result<()> {
         comparison.try_order(Backslash)?;
     }
     comparison.tally.show(&rt)?;
-    for difference in comparison.differences.first.iter() {
-        eprintln!(rt; "{difference}")?;
-    }
-    let differ = comparison.differences.count;
-    println!(rt; "{differ} differ")
+    comparison.differences.show(&rt)
 }

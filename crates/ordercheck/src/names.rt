@@ -1,64 +1,55 @@
 // Names and values of aliases to draw from, besides those that scripts are made with.
 
 // Good names; with the names of the scripts' commands there are more than an order takes.
-pub fn good_name(n: usize) -> &'static str {
-    match n {
-        0 => "d",
-        1 => "_x",
-        2 => "9",
-        3 => "a!",
-        4 => "A,b%",
-        5 => "@",
-        6 => "if",
-        7 => "abcdefghijklmnop",
-        _ => "Z",
-    }
-}
-
-pub const GOOD_NAMES: usize = 9;
+pub const GOOD_NAMES: [&str; 9] = [
+    "d",
+    "_x",
+    "9",
+    "a!",
+    "A,b%",
+    "@",
+    "if",
+    "abcdefghijklmnop",
+    "Z",
+];
 
 // Names that are not good ones, but for the last.
-pub fn odd_name(n: usize) -> &'static str {
-    match n {
-        0 => "",
-        1 => "abcdefghijklmnopq",
-        2 => "a b",
-        3 => "x=1",
-        4 => "ls\0",
-        5 => "-l",
-        6 => "a/b",
-        7 => "{",
-        8 => "b;",
-        9 => "ab\u{e9}",
-        10 => "not a name, and too long",
-        _ => "!",
-    }
-}
-
-pub const ODD_NAMES: usize = 12;
+pub const ODD_NAMES: [&str; 12] = [
+    "",
+    "abcdefghijklmnopq",
+    "a b",
+    "x=1",
+    "ls\0",
+    "-l",
+    "a/b",
+    "{",
+    "b;",
+    "ab\u{e9}",
+    "not a name, and too long",
+    "!",
+];
 
 // Values that are not good ones, but for the last three.
-pub fn odd_value(n: usize) -> &'static str {
-    match n {
-        0 => "",
-        1 => " ",
-        2 => "\t \t",
-        3 => "a;b",
-        4 => " ls\n",
-        5 => "a $x",
-        6 => "'a'",
-        7 => "a \"b\"",
-        8 => "#a",
-        9 => "a\\",
-        10 => "`b`",
-        11 => "a (b)",
-        12 => "a >f <g",
-        13 => "a | b & c",
-        14 => "a\0",
-        15 => "\u{e9}t\u{e9}",
-        16 => "\r\x0b",
-        _ => "!",
-    }
-}
+pub const ODD_VALUES: [&str; 18] = [
+    "",
+    " ",
+    "\t \t",
+    "a;b",
+    " ls\n",
+    "a $x",
+    "'a'",
+    "a \"b\"",
+    "#a",
+    "a\\",
+    "`b`",
+    "a (b)",
+    "a >f <g",
+    "a | b & c",
+    "a\0",
+    "\u{e9}t\u{e9}",
+    "\r\x0b",
+    "!",
+];
 
-pub const ODD_VALUES: usize = 18;
+// Behind a template: what begins as a hole does and is none.
+pub const BAD_HOLES: [&str; 5] = [" @{x}", " @{10}", " @{1", "@{", " @{@{1}}"];

@@ -12,13 +12,27 @@ pub enum Request {
     List { script: Vec<u8> },
 }
 
-#[derive(Clone, Copy)]
+// What calls are counted by, in the order in which they are shown.
+// Stays: a kind apart from the call, since the tally's map wants a key without bytes.
+#[derive(Clone, Copy, PartialEq, Eq, PartialOrd, Ord)]
 pub enum CallKind {
     Alias,
     Unalias,
     Load,
     Unload,
     List,
+}
+
+impl fmt::Display for CallKind {
+    fn fmt<W: fmt::Write>(&self, f: &mut fmt::Formatter<W>) -> fmt::Result {
+        f.write_str(match self {
+            CallKind::Alias => "alias",
+            CallKind::Unalias => "unalias",
+            CallKind::Load => "load",
+            CallKind::Unload => "unload",
+            CallKind::List => "list",
+        })
+    }
 }
 
 impl Request {
@@ -53,27 +67,23 @@ pub fn calls_of(heap: Global, requests: &[Request]) -> Result<Vec<Call<'_>>, All
     Ok(calls)
 }
 
+// The kind of call, and its bytes, each text in quotes.
 impl fmt::Display for Request {
     fn fmt<W: fmt::Write>(&self, f: &mut fmt::Formatter<W>) -> fmt::Result {
+        write!(f, "{}", self.kind())?;
         match self {
             Request::Alias { name, value } => {
-                let name = name.as_slice().escape_ascii();
-                let value = value.as_slice().escape_ascii();
-                write!(f, "alias \"{name}\" \"{value}\"")
+                put_quoted(f, name)?;
+                put_quoted(f, value)
             }
-            Request::Unalias { name } => {
-                let name = name.as_slice().escape_ascii();
-                write!(f, "unalias \"{name}\"")
-            }
-            Request::Load { template } => {
-                let template = template.as_slice().escape_ascii();
-                write!(f, "load \"{template}\"")
-            }
-            Request::Unload => write!(f, "unload"),
-            Request::List { script } => {
-                let script = script.as_slice().escape_ascii();
-                write!(f, "list \"{script}\"")
-            }
+            Request::Unalias { name: bytes }
+            | Request::Load { template: bytes }
+            | Request::List { script: bytes } => put_quoted(f, bytes),
+            Request::Unload => Ok(()),
         }
     }
+}
+
+fn put_quoted<W: fmt::Write>(f: &mut fmt::Formatter<W>, bytes: &Vec<u8>) -> fmt::Result {
+    write!(f, " \"{}\"", bytes.as_slice().escape_ascii())
 }

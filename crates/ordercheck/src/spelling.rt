@@ -7,49 +7,26 @@ const LONGEST_NAME: usize = 16;
 const LONGEST_VALUE: usize = 64;
 
 // What a name may have besides letters and digits.
-const NAME_MARKS: &str = "_!%,@";
+const NAME_MARKS: &[u8] = b"_!%,@";
 
 // What no value may have.
-const NO_VALUE: &str = "\0\n|&;<>()$`\\\"'#";
+const NO_VALUE: &[u8] = b"\0\n|&;<>()$`\\\"'#";
 
-fn is_in(b: u8, bytes: &str) -> bool {
-    bytes.as_bytes().contains(&b)
-}
-
-fn is_in_name(b: u8) -> bool {
-    b.is_ascii_alphanumeric() || is_in(b, NAME_MARKS)
-}
-
-fn is_in_value(b: u8) -> bool {
-    !is_in(b, NO_VALUE)
-}
-
-fn check_name(name: &[u8]) -> Result<(), Fault> {
-    for (place, b) in name.iter().enumerate() {
-        if !is_in_name(*b) {
-            return Err(refused(Reason::BadAlias, place));
-        }
-    }
+// The first byte that no name has, or the start of an empty one.
+fn bad_in_name(name: &[u8]) -> Option<usize> {
     if name.is_empty() {
-        return Err(refused(Reason::BadAlias, 0));
+        return Some(0);
     }
-    Ok(())
+    name.iter()
+        .position(|b| !b.is_ascii_alphanumeric() && !NAME_MARKS.contains(b))
 }
 
-fn check_value(value: &[u8]) -> Result<(), Fault> {
-    let mut blank = true;
-    for (place, b) in value.iter().enumerate() {
-        if !is_in_value(*b) {
-            return Err(refused(Reason::BadAlias, place));
-        }
-        if *b != b' ' && *b != b'\t' {
-            blank = false;
-        }
+// The first byte that no value has, or the start of one that is blank.
+fn bad_in_value(value: &[u8]) -> Option<usize> {
+    if value.iter().all(|b| matches!(b, b' ' | b'\t')) {
+        return Some(0);
     }
-    if blank {
-        return Err(refused(Reason::BadAlias, 0));
-    }
-    Ok(())
+    value.iter().position(|b| NO_VALUE.contains(b))
 }
 
 // Too long comes first, then a bad name, then a bad value.
@@ -57,6 +34,8 @@ pub fn check_alias(name: &[u8], value: &[u8]) -> Result<(), Fault> {
     if name.len() > LONGEST_NAME || value.len() > LONGEST_VALUE {
         return Err(refused(Reason::TooLong, 0));
     }
-    check_name(name)?;
-    check_value(value)
+    match bad_in_name(name).or(bad_in_value(value)) {
+        Some(place) => Err(refused(Reason::BadAlias, place)),
+        None => Ok(()),
+    }
 }

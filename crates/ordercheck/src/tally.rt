@@ -1,58 +1,44 @@
 // Counts of what calls say.
 use super::request::CallKind;
-use basics::refusal::Reason;
+use comparing::refusals::{REASONS, Refusals};
 use orders::outcome::Outcome;
 use std::alloc::{AllocError, Global};
 use std::collections::BTreeMap;
 use std::io;
 
-// How often calls were refused for a reason.
-#[derive(Drop)]
-struct Times {
-    reason: Reason,
-    count: u64,
-}
-
 // What calls of one kind said.
 #[derive(Drop)]
 struct KindTally {
     accepted: u64,
-    // by the number of the reason
-    refused: BTreeMap<u8, Times>,
+    refused: Refusals,
 }
 
 impl KindTally {
-    fn new(heap: Global) -> KindTally {
+    fn new() -> Self {
         KindTally {
             accepted: 0,
-            refused: BTreeMap::new(heap),
+            refused: Refusals::new(),
         }
     }
 
-    fn add(&mut self, outcome: Outcome) -> Result<(), AllocError> {
+    fn add(&mut self, outcome: Outcome) {
         match outcome {
-            Outcome::Refused(refusal) => self.refuse(refusal.reason),
-            _ => {
-                self.accepted = self.accepted.saturating_add(1);
-                Ok(())
-            }
+            Ok(_) => self.accepted = self.accepted.saturating_add(1),
+            Err(refusal) => self.refused.add(refusal.reason),
         }
     }
 
-    fn refuse(&mut self, reason: Reason) -> Result<(), AllocError> {
-        let none = Times { reason, count: 0 };
-        let times = self.refused.entry(reason.number())?.or_insert(none);
-        times.count = times.count.saturating_add(1);
-        Ok(())
-    }
-
-    fn show(&self, rt: &HostRuntime, kind: &str) -> io::Result<()> {
-        let accepted = self.accepted;
-        println!(rt; "{kind}: {accepted} accepted")?;
-        for (number, times) in self.refused.iter() {
-            let words = times.reason.words();
-            let count = times.count;
-            println!(rt; "{kind}: {count} refused {number} {words}")?;
+    fn show(&self, rt: &HostRuntime, kind: CallKind) -> io::Result<()> {
+        println!(rt; "{kind}: {} accepted", self.accepted)?;
+        for reason in REASONS {
+            let times = self.refused.times(reason);
+            if times > 0 {
+                println!(rt;
+                    "{kind}: {times} refused {} {}",
+                    u8::from(reason),
+                    reason.words()
+                )?;
+            }
         }
         Ok(())
     }
@@ -66,11 +52,7 @@ pub struct Tally {
     unheard: u64,
     // names that were listed after an order's calls
     names: u64,
-    alias: KindTally,
-    unalias: KindTally,
-    load: KindTally,
-    unload: KindTally,
-    list: KindTally,
+    kinds: BTreeMap<CallKind, KindTally>,
 }
 
 impl Tally {
@@ -80,11 +62,7 @@ impl Tally {
             calls: 0,
             unheard: 0,
             names: 0,
-            alias: KindTally::new(heap),
-            unalias: KindTally::new(heap),
-            load: KindTally::new(heap),
-            unload: KindTally::new(heap),
-            list: KindTally::new(heap),
+            kinds: BTreeMap::new(heap),
         }
     }
 
@@ -97,13 +75,9 @@ impl Tally {
     // Counts a call and what it said.
     pub fn add(&mut self, kind: CallKind, outcome: Outcome) -> Result<(), AllocError> {
         self.calls = self.calls.saturating_add(1);
-        match kind {
-            CallKind::Alias => self.alias.add(outcome),
-            CallKind::Unalias => self.unalias.add(outcome),
-            CallKind::Load => self.load.add(outcome),
-            CallKind::Unload => self.unload.add(outcome),
-            CallKind::List => self.list.add(outcome),
-        }
+        let of_kind = self.kinds.entry(kind)?.or_insert(KindTally::new());
+        of_kind.add(outcome);
+        Ok(())
     }
 
     // Counts calls that had no slot.
@@ -112,18 +86,17 @@ impl Tally {
     }
 
     pub fn show(&self, rt: &HostRuntime) -> io::Result<()> {
-        let orders = self.orders;
-        let calls = self.calls;
-        let unheard = self.unheard;
-        let names = self.names;
         println!(rt;
-            "{orders} orders, {calls} calls, {unheard} of them without a slot for what they say"
+            "{} orders, {} calls, {} of them without a slot for what they say",
+            self.orders, self.calls, self.unheard
         )?;
-        println!(rt; "{names} of the lists are of one name each, after an order's other calls")?;
-        self.alias.show(rt, "alias")?;
-        self.unalias.show(rt, "unalias")?;
-        self.load.show(rt, "load")?;
-        self.unload.show(rt, "unload")?;
-        self.list.show(rt, "list")
+        println!(rt;
+            "{} of the lists are of one name each, after an order's other calls",
+            self.names
+        )?;
+        for (kind, tally) in self.kinds.iter() {
+            tally.show(rt, *kind)?;
+        }
+        Ok(())
     }
 }

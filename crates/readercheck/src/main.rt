@@ -1,41 +1,37 @@
-// Runs the second reader, and beside it the product's, on many texts, and prints how many were read and how many differ.
+// Has the second reader and the product's read the same texts under the same aliases, and compares all that a caller sees:
+// what `list` says and leaves on a sheet, to the last slot, and the holes or the refusal of a template. Prints how many texts
+// were read and how many differ.
 #![tactic(auto)]
 
-mod alias_tables;
 mod difference;
-mod families;
-mod fill;
-mod run;
-mod slots;
-mod tally;
+mod product;
+mod sheets;
 
-use families::nth_family;
-use run::Run;
+use comparing::families::{Family, Kind};
+use comparing::run::Run;
+use product::Product;
 use std::io;
-use tally::Tally;
 
 // Any number will do; another gives other random texts, and other counts.
 const SEED: u64 = 20_261_117;
 
+const FAMILIES: [Family; 12] = [
+    Family::Rooms(3),
+    Family::Strings(4),
+    Family::Lists(6),
+    Family::Quotes(7),
+    Family::Holes(5),
+    Family::Examples,
+    Family::Random(Kind::Scripts),
+    Family::Random(Kind::DamagedScripts),
+    Family::Random(Kind::SplicedScripts),
+    Family::Random(Kind::Edges),
+    Family::Random(Kind::Templates),
+    Family::Random(Kind::DamagedTemplates),
+];
+
 fn main(rt: HostRuntime) -> io::Result<()> {
-    let mut run = Run::new(rt.alloc(), SEED);
-    let mut all = Tally::new(rt.alloc())?;
-    for n in 0..100 {
-        let Some(family) = nth_family(n) else {
-            break;
-        };
-        let tally = run.read_family(family)?;
-        all.join(&tally);
-        let words = family.words();
-        println!(rt; "{words}: {tally}")?;
-    }
-    all.show_refusals(&rt)?;
-    let filled = run.filled;
-    let unlike = run.unlike;
-    println!(rt; "{filled} filled templates, {unlike} read unlike their templates")?;
-    for difference in run.differences.first.iter() {
-        eprintln!(rt; "{difference}")?;
-    }
-    let differ = all.differ;
-    println!(rt; "{differ} differ")
+    let mut run = Run::new(rt.alloc(), SEED, Product::new(rt.alloc()));
+    run.read(&rt, &FAMILIES)?;
+    run.beside.differences.show(&rt)
 }

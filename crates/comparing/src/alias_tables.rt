@@ -1,39 +1,35 @@
 // Tables of aliases to read under.
 use descent_lexer::item::Alias;
+use random::Numbers;
 use scripts::Scripts;
 use std::alloc::{AllocError, Global};
 
 // A table has at most so many.
 const MOST: usize = 8;
 
+// Aliases that stand for one another, for themselves, for assignments, for a reserved word and for a number.
+const ENTWINED: [(&str, &str); MOST] = [
+    ("ls", "ls -l "),
+    ("a", "b"),
+    ("b", " x=1 a"),
+    ("e", "x=1 y=2"),
+    ("i", "if"),
+    ("2", "two 2"),
+    ("!", "@{0} ="),
+    ("1", "e\ta"),
+];
+
+// A name that has a value keeps it.
 fn define(aliases: &mut Vec<Alias>, name: Vec<u8>, value: Vec<u8>) -> Result<(), AllocError> {
-    for alias in aliases.iter() {
-        if alias.name == name {
-            return Ok(());
-        }
+    if !aliases.iter().any(|alias| alias.name == name) {
+        aliases.push(Alias { name, value })?;
     }
-    aliases.push(Alias { name, value })?;
     Ok(())
 }
 
-// Aliases that stand for one another, for themselves, for assignments, for a reserved word and for a number.
-fn entwined_alias(n: usize) -> (&'static str, &'static str) {
-    match n {
-        0 => ("ls", "ls -l "),
-        1 => ("a", "b"),
-        2 => ("b", " x=1 a"),
-        3 => ("e", "x=1 y=2"),
-        4 => ("i", "if"),
-        5 => ("2", "two 2"),
-        6 => ("!", "@{0} ="),
-        _ => ("1", "e\ta"),
-    }
-}
-
-pub fn entwined(heap: Global) -> Result<Vec<Alias>, AllocError> {
+pub(crate) fn entwined(heap: Global) -> Result<Vec<Alias>, AllocError> {
     let mut all = Vec::new(heap);
-    for n in 0..MOST {
-        let (name, value) = entwined_alias(n);
+    for (name, value) in ENTWINED {
         let name = Vec::from_slice(heap, name.as_bytes())?;
         let value = Vec::from_slice(heap, value.as_bytes())?;
         define(&mut all, name, value)?;
@@ -42,7 +38,7 @@ pub fn entwined(heap: Global) -> Result<Vec<Alias>, AllocError> {
 }
 
 // A table of some aliases.
-pub fn some(heap: Global, scripts: &mut Scripts) -> Result<Vec<Alias>, AllocError> {
+pub(crate) fn some(heap: Global, scripts: &mut Scripts) -> Result<Vec<Alias>, AllocError> {
     let mut all = Vec::new(heap);
     for _ in 0..scripts.random.below(MOST + 1) {
         let mut name = Vec::new(heap);

@@ -2,44 +2,27 @@
 use descent_lexer::item::{Item, Letter, Reading};
 use std::alloc::{AllocError, Global};
 
-#[derive(Clone, Copy)]
-pub enum Form {
-    Single,
-    Backslash,
-}
-
-impl Form {
-    fn put(self, out: &mut Vec<u8>, text: &[u8]) -> Result<(), AllocError> {
-        match self {
-            Form::Single => put_single(out, text),
-            Form::Backslash => put_backslash(out, text),
-        }
-    }
-}
-
-fn put_single(out: &mut Vec<u8>, text: &[u8]) -> Result<(), AllocError> {
+// The two forms of a text, as the rules have them, apart from the product's quoters.
+pub(crate) fn put_single(out: &mut Vec<u8>, text: &[u8]) -> Result<(), AllocError> {
     out.push(b'\'')?;
     for b in text {
-        if *b == b'\'' {
-            out.extend_from_slice(b"'\\''")?;
-        } else {
-            out.push(*b)?;
+        match b {
+            b'\'' => out.extend_from_slice(b"'\\''")?,
+            _ => out.push(*b)?,
         }
     }
     out.push(b'\'')?;
     Ok(())
 }
 
-fn put_backslash(out: &mut Vec<u8>, text: &[u8]) -> Result<(), AllocError> {
+pub(crate) fn put_backslash(out: &mut Vec<u8>, text: &[u8]) -> Result<(), AllocError> {
     if text.is_empty() {
         return out.extend_from_slice(b"''");
     }
     for b in text {
-        if *b == b'\n' {
-            out.extend_from_slice(b"'\n'")?;
-        } else {
-            out.push(b'\\')?;
-            out.push(*b)?;
+        match b {
+            b'\n' => out.extend_from_slice(b"'\n'")?,
+            _ => out.extend_from_slice(&[b'\\', *b])?,
         }
     }
     Ok(())
@@ -47,34 +30,31 @@ fn put_backslash(out: &mut Vec<u8>, text: &[u8]) -> Result<(), AllocError> {
 
 // The text for a hole; there are ten.
 fn text_of(texts: &[Vec<u8>], digit: usize) -> &[u8] {
-    match texts.get(digit) {
-        Some(text) => text.as_slice(),
-        None => b"",
-    }
+    texts.get(digit).map_or(&[], |text| text.as_slice())
 }
 
 // The script of a template whose holes are all good ones.
-pub fn script_of(
+pub(crate) fn script_of<F: Fn(&mut Vec<u8>, &[u8]) -> Result<(), AllocError>>(
     heap: Global,
     template: &[u8],
     texts: &[Vec<u8>],
-    form: Form,
-) -> Result<Vec<u8>, AllocError> {
+    put_form: F,
+) -> Result<Vec<u8>, AllocError>
+    requires { F.IsAlwaysCallable put_form }
+{
     let mut script = Vec::new(heap);
-    // how many bytes of a hole are still to be passed over
-    let mut inside: u8 = 0;
-    for place in 0..template.len() {
-        if inside > 0 {
-            inside -= 1;
-            continue;
-        }
-        match &template[place..] {
-            [b'@', b'{', digit, b'}', ..] => {
-                inside = 3;
-                form.put(&mut script, text_of(texts, usize::from(digit & 15)))?;
+    let mut rest = template;
+    while let Some((b, behind)) = rest.split_first() {
+        rest = match (b, behind) {
+            (b'@', [b'{', digit, b'}', after @ ..]) => {
+                put_form(&mut script, text_of(texts, usize::from(digit & 15)))?;
+                after
             }
-            _ => script.push(template[place])?,
-        }
+            _ => {
+                script.push(*b)?;
+                behind
+            }
+        };
     }
     Ok(script)
 }
@@ -95,7 +75,7 @@ fn filled(heap: Global, letters: &[Letter], texts: &[Vec<u8>]) -> Result<Vec<Let
 }
 
 // Whether the script's items are the template's, filled; places are not compared.
-pub fn reads_alike(
+pub(crate) fn reads_alike(
     heap: Global,
     template: &Reading,
     texts: &[Vec<u8>],
