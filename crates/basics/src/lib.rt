@@ -2,6 +2,7 @@
 #![tactic(auto)]
 
 pub mod bytes;
+pub mod kept;
 pub mod page;
 pub mod refusal;
 pub mod search;
