@@ -1,17 +1,28 @@
 -- Aliases in a row. Assumes nothing.
-use Rattle.std.specs.Prelude.{ℕ, Bool, not, List, [], map, Option, position, slice_get, option_map, unwrap_or}
+use Rattle.std.specs.Prelude.{ℕ, Bool, not, List, [], map, take, Option, position, slice_get, option_map, unwrap_or}
 use Rattle.std.specs.List.{list_any}
 use Rattle.std.specs.Map.{lookup}
 use Rattle.std.specs.Str.{bytes_eq}
 use Rattle.aliases.specs.declared.alias.Alias.{Alias}
 
-abbrev pub name_of : Alias → List ℕ
-name_of a = a.0
+-- the entry of a map, from names to values, that an alias is
+abbrev pub Entry : Type 0
+Entry = List ℕ × List ℕ
 
-abbrev pub value_of : Alias → List ℕ
-value_of a = a.1
+abbrev pub entry : Alias → Entry
+entry a = (take a.name.len a.name.bytes, take a.value.len a.value.bytes)
 
-abbrev pub names : List Alias → List (List ℕ)
+abbrev pub name_of : Entry → List ℕ
+name_of e = e.0
+
+abbrev pub value_of : Entry → List ℕ
+value_of e = e.1
+
+-- the aliases in the first so many of some slots
+abbrev pub row_of : ℕ → List Alias → List Entry
+row_of count slots = map entry (take count slots)
+
+abbrev pub names : List Entry → List (List ℕ)
 names row = map name_of row
 
 -- none of the names is this one
@@ -19,21 +30,21 @@ abbrev pub is_free : List ℕ → List (List ℕ) → Bool
 is_free n ns = not (list_any (bytes_eq n) ns)
 
 -- the value at a name
-abbrev pub look_up : List Alias → List ℕ → Option (List ℕ)
+abbrev pub look_up : List Entry → List ℕ → Option (List ℕ)
 look_up row n = lookup (bytes_eq n) row
 
 -- the index of the alias of a name
-abbrev pub index_of : List ℕ → List Alias → Option ℕ
-index_of n row = position (λ a. bytes_eq n (name_of a)) row
+abbrev pub index_of : List ℕ → List Entry → Option ℕ
+index_of n row = position (λ e. bytes_eq n (name_of e)) row
 
 -- the name at an index, and no bytes past the row
-abbrev pub name_at : List Alias → ℕ → List ℕ
+abbrev pub name_at : List Entry → ℕ → List ℕ
 name_at row i = unwrap_or (option_map name_of (slice_get row i)) []
 
 -- the value at an index, and no bytes past the row
-abbrev pub value_at : List Alias → ℕ → List ℕ
+abbrev pub value_at : List Entry → ℕ → List ℕ
 value_at row i = unwrap_or (option_map value_of (slice_get row i)) []
 
 -- the value at an index that was found, and none where there was none
-abbrev pub value_at_found : List Alias → Option ℕ → Option (List ℕ)
+abbrev pub value_at_found : List Entry → Option ℕ → Option (List ℕ)
 value_at_found row found = option_map (value_at row) found

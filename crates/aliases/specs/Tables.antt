@@ -1,14 +1,13 @@
 -- What an alias table stands for. Assumes nothing.
 use Rattle.std.specs.Prelude.{ℕ, List, length, Some, None, Option}
 use Rattle.std.specs.Borrow.{Bor}
-use Rattle.aliases.specs.declared.alias.Alias.{Alias}
 use Rattle.aliases.specs.declared.table.AliasTable.{AliasTable}
 use Rattle.aliases.specs.Aliases.{Aliases}
-use Rattle.aliases.specs.Rows.{look_up}
+use Rattle.aliases.specs.Rows.{Entry, row_of, look_up}
 
 -- the aliases that it holds, in a row
-abbrev pub rows : AliasTable → List Alias
-rows t = t
+abbrev pub rows : AliasTable → List Entry
+rows t = row_of t.count t.slots
 
 -- the aliases that it means
 abbrev pub aliases_of : AliasTable → Aliases

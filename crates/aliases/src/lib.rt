@@ -2,6 +2,7 @@
 #![tactic(auto)]
 
 pub mod alias;
+pub mod calls;
 mod spelling;
 pub mod table;
 

@@ -1,44 +1,56 @@
-use Rattle.std.proofs.Common.{set, ◌∙◌, length-set, ap, is_some, arith}
-use Rattle.arrayvec.proofs.ArrayVecLemmas.{items-with_items}
-use Rattle.aliases.specs.Tables.{aliases_of}
-use Rattle.aliases.proofs.Changes.{pushed, replaced}
-use Rattle.aliases.proofs.Defined.{alias_is, another, newly}
+use Rattle.std.proofs.Common.{◌<◌, ◌≤◌, length, is_some, ap, ◌∙◌, arith, length-set}
+use Rattle.aliases.specs.Rows.{entry}
+use Rattle.aliases.specs.Tables.{rows, aliases_of}
+use Rattle.aliases.proofs.Changes.{length_row, set_row, push_row, renewed, pushed}
+use Rattle.aliases.proofs.Defined.{another, newly}
 use Rattle.aliases.proofs.table.AliasTable.define.Goals as goal
 
 pub invariant_of-self : goal.invariant_of-self
 invariant_of-self c =
-    let f = rw (← c.self.view_is) at c.in-Some.ensures in
-    let held = c.self.inside.held in
+    let t = c.args.self.now in
     let i = c.in-Some.index in
     let a = c.in_ok-alias.alias in
-    let is = alias_is c.args.name.now c.args.value.now a c.in_ok-alias.ensures in
-    rw (c.deref_mut.ensures.value, items-with_items held (set held.items i a) (length-set held.items i a))
-    (replaced held.items c.args.name.now c.args.value.now i f.found.0 f.found.1 c.self.invariant f.value a is).0
+    let f = c.in-Some.ensures in
+    let all : t.count ≤ length t.slots = omega (arith, t.within) in
+    let l : i < t.count = omega (arith, f.found.0, length_row t.slots t.count all) in
+    record {
+      within = (t.within.0, length-set t.slots i a ∙ t.within.1);
+      different = rw (set_row t.slots t.count all i a l) (renewed (rows t) c.args.name.now c.args.value.now i f.found.0 f.found.1 t.different f.value (entry a) c.in_ok-alias.ensures.1).0;
+    }
 
 pub invariant_of-self-in-None-2 : goal.invariant_of-self-in-None-2
 invariant_of-self-in-None-2 c =
-    let f = rw (← c.self.view_is) at c.in-None.ensures in
+    let t = c.args.self.now in
     let a = c.in_ok-alias.alias in
-    let is = alias_is c.args.name.now c.args.value.now a c.in_ok-alias.ensures in
-    rw c.push.ensures.items (pushed _ c.args.name.now c.args.value.now f.found c.self.invariant f.value a is).0
+    let f = c.in-None.ensures in
+    let all : t.count ≤ length t.slots = omega (arith, t.within) in
+    record {
+      within = (omega (arith, t.within, c.if-self-eq-ALIAS_LIMIT.false), length-set t.slots t.count a ∙ t.within.1);
+      different = rw (push_row t.slots t.count all a (omega (arith, t.within, c.if-self-eq-ALIAS_LIMIT.false))) (pushed (rows t) c.args.name.now c.args.value.now f.found t.different f.value (entry a) c.in_ok-alias.ensures.1).0;
+    }
 
 pub returns-in-Some-clause-after : goal.returns-in-Some-clause-after
 returns-in-Some-clause-after c =
-    let f = rw (← c.self.view_is) at c.in-Some.ensures in
-    let held = c.self.inside.held in
+    let t = c.args.self.now in
     let i = c.in-Some.index in
     let a = c.in_ok-alias.alias in
-    let is = alias_is c.args.name.now c.args.value.now a c.in_ok-alias.ensures in
-    rw (c.deref_mut.ensures.value, items-with_items held (set held.items i a) (length-set held.items i a), ← c.self.view_is)
-    ((replaced held.items c.args.name.now c.args.value.now i f.found.0 f.found.1 c.self.invariant f.value a is).1
-    ∙ another c.args.name.now c.args.value.now a c.in_ok-alias.ensures (aliases_of held.items) _ (ap is_some f.value))
+    let f = c.in-Some.ensures in
+    let n = c.args.name.now in
+    let v = c.args.value.now in
+    let all : t.count ≤ length t.slots = omega (arith, t.within) in
+    let l : i < t.count = omega (arith, f.found.0, length_row t.slots t.count all) in
+    rw (set_row t.slots t.count all i a l)
+    ((renewed (rows t) n v i f.found.0 f.found.1 t.different f.value (entry a) c.in_ok-alias.ensures.1).1
+    ∙ another n v c.in_ok-alias.ensures.0 (aliases_of t) _ (ap is_some f.value))
 
 pub returns-in-None-2-clause-after : goal.returns-in-None-2-clause-after
 returns-in-None-2-clause-after c =
-    let f = rw (← c.self.view_is) at c.in-None.ensures in
-    let held = c.self.inside.held in
+    let t = c.args.self.now in
     let a = c.in_ok-alias.alias in
-    let is = alias_is c.args.name.now c.args.value.now a c.in_ok-alias.ensures in
-    rw (c.push.ensures.items, ← c.self.view_is)
-    ((pushed _ c.args.name.now c.args.value.now f.found c.self.invariant f.value a is).1
-    ∙ newly c.args.name.now c.args.value.now a c.in_ok-alias.ensures (aliases_of held.items) _ (ap is_some f.value) (grind arith))
+    let f = c.in-None.ensures in
+    let n = c.args.name.now in
+    let v = c.args.value.now in
+    let all : t.count ≤ length t.slots = omega (arith, t.within) in
+    rw (push_row t.slots t.count all a (omega (arith, t.within, c.if-self-eq-ALIAS_LIMIT.false)))
+    ((pushed (rows t) n v f.found t.different f.value (entry a) c.in_ok-alias.ensures.1).1
+    ∙ newly n v c.in_ok-alias.ensures.0 (aliases_of t) _ (ap is_some f.value) (omega (arith, t.within, length_row t.slots t.count all, c.if-self-eq-ALIAS_LIMIT.false)))

@@ -1,16 +1,34 @@
-use Rattle.std.proofs.Common.{◌≡◌, Some, rules}
-use Rattle.aliases.proofs.Changes.{struck}
+use Rattle.std.proofs.Common.{◌≡◌, ◌<◌, ◌≤◌, length, get_or, Some, ◌∙◌, rules, arith, length-set}
+use Rattle.std.proofs.lemmas.List.{get_or_default}
+use Rattle.aliases.specs.Rows.{Entry, entry}
+use Rattle.aliases.specs.Tables.{rows}
+use Rattle.aliases.proofs.Changes.{length_row, strike_row, struck}
 use Rattle.aliases.proofs.table.AliasTable.remove.Goals as goal
 
 pub invariant_of-self : goal.invariant_of-self
 invariant_of-self c =
-    let some : c.find.result ≡ Some c.in_ok-index.index = search rules in
-    let f = rw (some, ← c.self.view_is) at c.find.ensures.found in
-    rw c.swap_remove.ensures.items (struck _ _ _ c.swap_remove.result c.self.invariant f.0 f.1 c.swap_remove.ensures.value).0
+    let t = c.args.self.now in
+    let i = c.in_ok-index.index in
+    let d = c.index-self-self.result in
+    let some : c.find.result ≡ Some i = search rules in
+    let f = rw some at c.find.ensures.found in
+    let all : t.count ≤ length t.slots = omega (arith, t.within) in
+    let l : i < t.count = omega (arith, f.0, length_row t.slots t.count all) in
+    let e : Entry = get_or (rows t) i (entry d) in
+    record {
+      within = (omega (arith, t.within), length-set t.slots i _ ∙ t.within.1);
+      different = rw (strike_row t.slots t.count all i d e l) (struck (rows t) _ i e t.different f.0 f.1 (get_or_default (rows t) i (entry d) e f.0)).0;
+    }
 
 pub returns-clause-after : goal.returns-clause-after
 returns-clause-after c =
-    let some : c.find.result ≡ Some c.in_ok-index.index = search rules in
-    let f = rw (some, ← c.self.view_is) at c.find.ensures.found in
-    let value = rw (some, ← c.self.view_is) at c.find.ensures.value in
-    rw (c.swap_remove.ensures.items, ← c.self.view_is, value) (struck _ _ _ c.swap_remove.result c.self.invariant f.0 f.1 c.swap_remove.ensures.value).1
+    let t = c.args.self.now in
+    let i = c.in_ok-index.index in
+    let d = c.index-self-self.result in
+    let some : c.find.result ≡ Some i = search rules in
+    let f = rw some at c.find.ensures.found in
+    let value = rw some at c.find.ensures.value in
+    let all : t.count ≤ length t.slots = omega (arith, t.within) in
+    let l : i < t.count = omega (arith, f.0, length_row t.slots t.count all) in
+    let e : Entry = get_or (rows t) i (entry d) in
+    rw (strike_row t.slots t.count all i d e l, value) (struck (rows t) _ i e t.different f.0 f.1 (get_or_default (rows t) i (entry d) e f.0)).1
