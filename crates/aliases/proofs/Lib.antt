@@ -1,3 +1,4 @@
+pub mod Apart
 pub mod Found
 pub mod Changes
 pub mod Defined

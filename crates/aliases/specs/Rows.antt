@@ -1,5 +1,5 @@
 -- Aliases in a row. Assumes nothing.
-use Rattle.std.specs.Prelude.{ℕ, Bool, not, List, [], map, take, Option, position, slice_get, option_map, unwrap_or}
+use Rattle.std.specs.Prelude.{ℕ, Bool, true, not, ◌&&◌, List, [], ◌∷◌, map, take, Option, position, slice_get, option_map, unwrap_or}
 use Rattle.std.specs.List.{list_any}
 use Rattle.std.specs.Map.{lookup}
 use Rattle.std.specs.Str.{bytes_eq}
@@ -28,6 +28,11 @@ names row = map name_of row
 -- none of the names is this one
 abbrev pub is_free : List ℕ → List (List ℕ) → Bool
 is_free n ns = not (list_any (bytes_eq n) ns)
+
+-- no two of the names are the same
+abbrev pub apart : List (List ℕ) → Bool
+apart [] = true
+apart (n ∷ ns) = is_free n ns && apart ns
 
 -- the value at a name
 abbrev pub look_up : List Entry → List ℕ → Option (List ℕ)

@@ -1,9 +1,6 @@
 // The table's memory: eight slots, of which the first `count` hold aliases of different names.
-ghost use Rattle.std.specs.Prelude.{◌≡◌, ◌≤◌, length};
-ghost use Rattle.std.specs.List.{IsDistinct};
-ghost use Rattle.std.proofs.Props.{props};
-ghost use Rattle.std.specs.Str.{bytes_eq};
-ghost use Rattle.aliases.specs.Rows.{names, row_of};
+ghost use Rattle.std.specs.Prelude.{◌≡◌, ◌≤◌, true, length};
+ghost use Rattle.aliases.specs.Rows.{names, apart, row_of};
 
 use crate::alias::Alias;
 
@@ -16,5 +13,5 @@ pub struct AliasTable {
     pub(crate) slots: [Alias; ALIAS_LIMIT],
     pub(crate) count: usize,
     ghost within: { (count ≤ 8) × (length slots ≡ 8) },
-    ghost different: { IsDistinct bytes_eq (names (row_of count slots)) } by { Prim.hlevel props },
+    ghost different: { apart (names (row_of count slots)) ≡ true },
 }

@@ -1,5 +1,5 @@
 -- Aliases that are open, each but once. Assumes nothing.
-use Rattle.std.proofs.Common.{◌≡◌, ℕ, ◌≤◌, true, false, List, [], ◌∷◌, ◌++◌, length, ◌||◌, refl, sym, subst, arith}
+use Rattle.std.proofs.Common.{◌≡◌, ℕ, ◌+◌, ◌≤◌, true, false, List, [], ◌∷◌, ◌++◌, length, ◌||◌, refl, sym, subst, arith}
 use Rattle.std.specs.Prelude.{IsSome}
 use Rattle.std.specs.List.{IsDistinct}
 use Rattle.std.specs.Str.{bytes_eq}
@@ -10,18 +10,20 @@ use Rattle.std.proofs.lemmas.Map.Keys.{IsDistinct-push, IsDistinct-IsPermutation
 use Rattle.std.proofs.lemmas.Map.Steps.{length-le_from_keys}
 use Rattle.std.proofs.lemmas.Slice.Eq.{bytes_eq-Decides}
 use Rattle.aliases.specs.declared.table.AliasTable.{AliasTable}
-use Rattle.aliases.specs.Tables.{aliases_of}
+use Rattle.aliases.specs.Tables.{rows, aliases_of}
 use Rattle.source.specs.declared.alias.Replacement.{Replacement}
+use Rattle.source.specs.declared.symbol.Symbol.{Symbol}
+use Rattle.source.specs.Symbols.{aliased}
 use Rattle.source.specs.Replacing.{is_listed}
-use Rattle.source.specs.Opened.{AreOpen, open_names}
-use Rattle.source.proofs.Opened.{open_names_push}
+use Rattle.source.specs.Opened.{AreOpen, fronted, open_names}
+use Rattle.source.proofs.Opened.{open_names_push, length_aliased}
 
 pub none_open : (table : AliasTable) → AreOpen table []
 unfolding IsDistinct
 none_open table = record { apart = tt; few = omega arith; known = λ n t. let z : ◌≡◌ {A = ℕ} 0 1 = cc in absurd (omega arith) }
 
 module _ (table : AliasTable) (names : List (List ℕ)) (word : List ℕ) where
-  pub one_more : AreOpen table names → is_listed word names ≡ false → IsSome ((aliases_of table).named word) → length table ≤ 8 → AreOpen table (word ∷ names)
+  pub one_more : AreOpen table names → is_listed word names ≡ false → IsSome ((aliases_of table).named word) → length (rows table) ≤ 8 → AreOpen table (word ∷ names)
   one_more h free found room =
       let apart = IsDistinct-IsPermutation bytes_eq nat_list_eq_equiv.symm (names ++ word ∷ []) (word ∷ names) (IsPermutation-to_front names word) (IsDistinct-push nat_list_eq_equiv names word h.apart free) in
       let known : (n : List ℕ) → is_listed n (word ∷ names) ≡ true → IsSome ((aliases_of table).named n) =
@@ -29,7 +31,7 @@ module _ (table : AliasTable) (names : List (List ℕ)) (word : List ℕ) where
         | true ↦ λ e t. subst (λ (m : List ℕ). IsSome ((aliases_of table).named m)) (sym ((bytes_eq-Decides n word).0 e)) found
         | false ↦ λ e t. h.known n t
       ] refl t in
-      let most : length (word ∷ names) ≤ length table = length-le_from_keys nat_list_eq_equiv (word ∷ names) table apart known in
+      let most : length (word ∷ names) ≤ length (rows table) = length-le_from_keys nat_list_eq_equiv (word ∷ names) (rows table) apart known in
       record { apart = apart; few = omega arith; known = known }
 
   pub one_less : AreOpen table (word ∷ names) → AreOpen table names
@@ -41,6 +43,11 @@ module _ (table : AliasTable) (names : List (List ℕ)) (word : List ℕ) where
 
 pub length_open : (rs : List Replacement) → length (open_names rs) ≡ length rs
 length_open rs = simp (length-reverse, length-map)
+
+-- an end is to come for each that is open
+pub length_fronted : (rs : List Replacement) (ss : List Symbol) → length rs + length ss ≤ length (fronted rs ss)
+length_fronted [] ss = omega arith
+length_fronted (r ∷ rs) ss = omega (arith, length_fronted rs (aliased r.rest.now r.place ss), length_aliased r.rest.now r.place ss)
 
 -- a replacement behind the others
 module _ (table : AliasTable) (rs : List Replacement) (r : Replacement) where

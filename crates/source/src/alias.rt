@@ -1,7 +1,8 @@
 // The alias source: the values of replaced words in front of what any other source gives.
-ghost use Rattle.std.specs.Prelude.{◌≡◌, ◌+◌, ◌≤◌, length};
+ghost use Rattle.std.specs.Prelude.{◌≡◌, ℕ, ◌+◌, ◌≤◌, true, List, length, IsSome};
 ghost use Rattle.std.specs.List.{list_any};
 ghost use Rattle.std.specs.Str.{bytes_eq};
+ghost use Rattle.aliases.specs.Tables.{aliases_of};
 ghost use Rattle.source.specs.Replacing.{is_listed, replace_answer};
 ghost use Rattle.source.specs.Opened.{first_of};
 ghost use Rattle.source.specs.Fronts.{front, value_for, replaced, onward};
@@ -85,7 +86,11 @@ impl<'a, S: Source> AliasSource<'a, S> {
 
     // Whether the end of this name's alias is still to come.
     pub fn is_open(&self, name: &[u8]) -> bool
-        ensures { result ≡ is_listed name.now self.now.names }
+        ensures is { result ≡ is_listed name.now self.now.names }
+        ensures few { length self.now.names ≤ 8 }
+        ensures bounded { length self.now.names + self.now.left ≤ 64 }
+        ensures ends { length self.now.names ≤ length self.now.coming }
+        ensures known { (n : List ℕ) → is_listed n self.now.names ≡ true → IsSome ((aliases_of self.now.table).named n) }
     {
         is_among(name, &self.opened)
     }

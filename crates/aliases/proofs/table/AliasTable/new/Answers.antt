@@ -1,7 +1,5 @@
 use Rattle.std.proofs.Common.{refl, arith}
-use Rattle.std.specs.List.{IsDistinct}
 use Rattle.aliases.proofs.table.AliasTable.new.Goals as goal
 
 pub invariant_of-result : goal.invariant_of-result
-unfolding IsDistinct
-invariant_of-result c = record { within = (omega arith, refl); different = tt }
+invariant_of-result c = record { within = (omega arith, refl); different = refl }
