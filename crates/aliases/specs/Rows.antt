@@ -10,7 +10,7 @@ abbrev pub Entry : Type 0
 Entry = List ℕ × List ℕ
 
 abbrev pub entry : Alias → Entry
-entry a = (take a.name.len a.name.bytes, take a.value.len a.value.bytes)
+entry a = (take a.name_len a.name, take a.value_len a.value)
 
 abbrev pub name_of : Entry → List ℕ
 name_of e = e.0
