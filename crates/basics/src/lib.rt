@@ -2,7 +2,6 @@
 #![tactic(auto)]
 
 pub mod bytes;
-pub mod kept;
 pub mod page;
 pub mod refusal;
 pub mod search;
