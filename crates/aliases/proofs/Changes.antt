@@ -2,13 +2,14 @@
 use Rattle.std.proofs.Common.{◌≡◌, ℕ, suc, ◌+◌, ◌-◌, ◌<◌, ◌≤◌, true, false, cond, List, [], ◌∷◌, ◌++◌, length, get_or, set, is_some, Some, None, Option, sym, subst, refl, ap, ◌∙◌, arith, length-set, length-take, length-take-le, map, take}
 use Rattle.std.proofs.Math.Path.{fun_ext}
 use Rattle.std.proofs.Math.Seq.{take-set-lt}
-use Rattle.std.specs.Prelude.{swap_remove, remove, IsPermutation, option_map, unwrap_or}
+use Rattle.std.specs.Prelude.{swap_remove, remove, IsPermutation, Contains, option_map, unwrap_or}
 use Rattle.std.specs.List.{IsDistinct, AllByRecursion}
 use Rattle.std.specs.Map.{update}
 use Rattle.std.specs.Str.{bytes_eq}
 use Rattle.std.proofs.lemmas.Bool.{not-true}
 use Rattle.std.proofs.lemmas.Cmp.{nat_list_eq_equiv}
 use Rattle.std.proofs.lemmas.List.{get_or-set_same, get_or_default, get_or-map, map-set, map_push, length_push, set-get_or, take-set, drop-set-lt, take_more_set, length-map, take-take, get_or-take, take-map}
+use Rattle.std.proofs.lemmas.List.Elements.{Contains-get_or}
 use Rattle.std.proofs.lemmas.List.Sorted.{IsPermutation-swap_remove, IsPermutation-remove, IsPermutation-to_front, IsPermutation-map, IsPermutation-sym, Contains-permutation}
 use Rattle.std.proofs.lemmas.Map.{NonePasses, lookup-none, update_other, update-update}
 use Rattle.std.proofs.lemmas.Map.Keys.{IsDistinct-head, IsDistinct-tail, IsDistinct-IsPermutation, IsDistinct-push}
@@ -17,7 +18,7 @@ use Rattle.std.proofs.lemmas.Option.{slice_get-get_or}
 use Rattle.std.proofs.lemmas.Slice.Eq.{bytes_eq-Decides}
 use Rattle.aliases.specs.declared.alias.Alias.{Alias}
 use Rattle.aliases.specs.Aliases.{Aliases, defined, removed}
-use Rattle.aliases.specs.Rows.{Entry, entry, row_of, name_of, value_of, names, name_at, look_up, is_free}
+use Rattle.aliases.specs.Rows.{Entry, entry, row_of, name_of, value_of, names, name_at, value_at, look_up, is_free}
 
 -- the aliases that a row means
 abbrev pub meant : List Entry → Aliases
@@ -132,6 +133,14 @@ module _ (row : List Entry) (n v : List ℕ) (i : ℕ) (h : i < length row) (sam
           count = (length-set row i (n, v) ∙ sym (ap (λ o. cond (is_some o) (length row) (length row + 1)) some)) j;
         },
       )
+
+-- the value at an index is the value at its name
+pub value_known : (row : List Entry) (i : ℕ) (n : List ℕ) → i < length row → name_at row i ≡ n → IsDistinct bytes_eq (names row) → look_up row n ≡ Some (value_at row i)
+value_known row i n h same apart =
+    let e : Entry = get_or row i ([], []) in
+    let value : value_at row i ≡ value_of e = ap (λ o. unwrap_or (option_map value_of o) []) (slice_get-get_or row i ([], []) h) in
+    let named : name_of e ≡ n = name_there row i ([], []) h ∙ same in
+    lookup-from_Contains nat_list_eq_equiv n (value_of e) row apart (subst (λ (m : List ℕ). Contains row (m, value_of e)) named (Contains-get_or row i ([], []) h)) ∙ ap Some (sym value)
 
 -- the aliases in the first n slots, after a write to the slots
 module _ (slots : List Alias) (n : ℕ) (within : n ≤ length slots) where

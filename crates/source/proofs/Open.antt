@@ -1,5 +1,5 @@
 -- Aliases that are open, each but once. Assumes nothing.
-use Rattle.std.proofs.Common.{◌≡◌, ℕ, ◌+◌, ◌≤◌, true, false, List, [], ◌∷◌, ◌++◌, length, ◌||◌, refl, sym, subst, arith}
+use Rattle.std.proofs.Common.{◌≡◌, ℕ, ◌+◌, ◌≤◌, Bool, true, false, cond, List, Some, None, Option, map, take, [], ◌∷◌, ◌++◌, length, ◌||◌, refl, sym, ap, subst, arith, length-take-le}
 use Rattle.std.specs.Prelude.{IsSome}
 use Rattle.std.specs.List.{IsDistinct}
 use Rattle.std.specs.Str.{bytes_eq}
@@ -9,12 +9,14 @@ use Rattle.std.proofs.lemmas.List.Sorted.{IsPermutation-to_front}
 use Rattle.std.proofs.lemmas.Map.Keys.{IsDistinct-push, IsDistinct-IsPermutation, IsDistinct-tail}
 use Rattle.std.proofs.lemmas.Map.Steps.{length-le_from_keys}
 use Rattle.std.proofs.lemmas.Slice.Eq.{bytes_eq-Decides}
+use Rattle.aliases.specs.declared.alias.Alias.{Alias}
+use Rattle.aliases.specs.Rows.{entry, name_of, value_of, look_up}
 use Rattle.aliases.specs.declared.table.AliasTable.{AliasTable}
 use Rattle.aliases.specs.Tables.{rows, aliases_of}
 use Rattle.source.specs.declared.alias.Replacement.{Replacement}
 use Rattle.source.specs.declared.symbol.Symbol.{Symbol}
 use Rattle.source.specs.Symbols.{aliased}
-use Rattle.source.specs.Replacing.{is_listed}
+use Rattle.source.specs.Replacing.{is_listed, stands_for}
 use Rattle.source.specs.Opened.{AreOpen, fronted, open_names}
 use Rattle.source.proofs.Opened.{open_names_push, length_aliased}
 
@@ -56,3 +58,20 @@ module _ (table : AliasTable) (rs : List Replacement) (r : Replacement) where
 
   pub AreOpen-pop : AreOpen table (open_names (rs ++ r ∷ [])) → AreOpen table (r.name.now ∷ open_names rs)
   AreOpen-pop h = subst (AreOpen table) (open_names_push rs r) h
+
+-- a value has at most 64 bytes
+
+short_rows : (row : List Alias) (w v : List ℕ) → look_up (map entry row) w ≡ Some v → length v ≤ 64
+short_rows [] w v h = let z : ◌≡◌ {A = ℕ} 0 1 = cc in absurd (omega arith)
+short_rows (a ∷ row) w v h = by_name (bytes_eq w (name_of (entry a))) (short_rows row w v) h
+  where
+    by_name : (t : Bool) → (look_up (map entry row) w ≡ Some v → length v ≤ 64) → cond t (Some (value_of (entry a))) (look_up (map entry row) w) ≡ Some v → length v ≤ 64
+    by_name true more q = let e : value_of (entry a) ≡ v = cc in omega (arith, ap length e, length-take-le a.value_len a.value (omega (arith, a.within)), a.within)
+    by_name false more q = more q
+
+pub short_value : (t : AliasTable) (ns : List (List ℕ)) (w v : List ℕ) → stands_for (aliases_of t).named ns w ≡ Some v → length v ≤ 64
+short_value t ns w v h = by_listed (is_listed w ns) h
+  where
+    by_listed : (b : Bool) → cond b None ((aliases_of t).named w) ≡ Some v → length v ≤ 64
+    by_listed true q = let z : ◌≡◌ {A = ℕ} 0 1 = cc in absurd (omega arith)
+    by_listed false q = short_rows (take t.count t.slots) w v q

@@ -1,14 +1,15 @@
 -- Replaced words in front of a source, the innermost last. Assumes nothing.
-use Rattle.std.proofs.Common.{◌≡◌, ℕ, zero, suc, ◌+◌, ◌-◌, ◌<◌, ◌≤◌, ◌||◌, List, [], ◌∷◌, ◌++◌, map, reverse, length, Some, sym, refl, ap, ◌∙◌, arith}
+use Rattle.std.proofs.Common.{◌≡◌, ℕ, zero, suc, ◌+◌, ◌-◌, ◌<◌, ◌≤◌, ◌||◌, true, false, cond, List, [], ◌∷◌, ◌++◌, map, reverse, length, Some, None, Option, sym, refl, ap, ◌∙◌, arith}
 use Rattle.std.specs.Prelude.{slice_get}
 use Rattle.std.specs.Str.{bytes_eq}
 use Rattle.std.specs.List.{list_any}
 use Rattle.std.proofs.lemmas.List.{map_push, reverse-append}
 use Rattle.std.proofs.lemmas.List.Sorted.{list_any-IsPermutation, IsPermutation-reverse}
+use Rattle.source.specs.declared.symbol.Sign.TheVariants.{Byte, Hole, AliasEnd}
 use Rattle.source.specs.declared.symbol.Symbol.{Symbol}
 use Rattle.source.specs.declared.alias.Replacement.{Replacement}
 use Rattle.source.specs.Symbols.{first, aliased, symbol}
-use Rattle.source.specs.Replacing.{is_listed}
+use Rattle.source.specs.Replacing.{is_listed, stands_for, closed, outer}
 use Rattle.source.specs.Front.{Front}
 use Rattle.source.specs.Fronts.{onward, replaced}
 use Rattle.aliases.specs.declared.table.AliasTable.{AliasTable}
@@ -77,3 +78,19 @@ module _ (rs : List Replacement) (ss : List Symbol) (end : ℕ) (table : AliasTa
 
 pub length_pushed : (rs : List Replacement) (r : Replacement) (ss : List Symbol) → length r.rest.now ≤ 64 → length (fronted (rs ++ r ∷ []) ss) ≤ length (fronted rs ss) + 65
 length_pushed rs r ss short = rw fronted_push (omega (arith, length_aliased r.rest.now r.place (fronted rs ss)))
+
+-- where none is open, no symbol ends one
+pub closed_none : (o : Option Symbol) → closed o [] ≡ []
+closed_none None = refl
+closed_none (Some s) = elim s.sign as (λ g. elim g [ Byte b ↦ [] | Hole k ↦ [] | AliasEnd ↦ outer [] ] ≡ []) [ Byte b ↦ refl | Hole k ↦ refl | AliasEnd ↦ refl ]
+
+-- what a word stands for
+module _ (named : List ℕ → Option (List ℕ)) (ns : List (List ℕ)) (word : List ℕ) where
+  pub if_unnamed : named word ≡ None → stands_for named ns word ≡ None
+  if_unnamed e = ap (λ o. cond (is_listed word ns) None o) e ∙ elim (is_listed word ns) as (λ b. ◌≡◌ {A = Option (List ℕ)} (cond b None None) None) [ true ↦ refl | false ↦ refl ]
+
+  pub if_listed : true ≡ is_listed word ns → stands_for named ns word ≡ None
+  if_listed e = sym (ap (λ b. cond b None (named word)) e)
+
+  pub if_not_listed : false ≡ is_listed word ns → stands_for named ns word ≡ named word
+  if_not_listed e = sym (ap (λ b. cond b None (named word)) e)

@@ -1,11 +1,12 @@
 -- The table of operators, row by row, against what lengthens each operator. Assumes nothing.
-use Rattle.std.proofs.Common.{◌≡◌, ◌<◌, List, ◌∷◌, get_or, map, replicate, Some, None, Option, refl, ap, ◌∙◌, rules}
+use Rattle.std.proofs.Common.{◌≡◌, ◌-◌, ◌<◌, List, ◌∷◌, get_or, map, replicate, Some, None, Option, refl, ap, ◌∙◌, rules}
 use Rattle.std.proofs.lemmas.List.{get_or-map}
 use Rattle.std.specs.Option.{ok_or}
 use Rattle.std.specs.Result.{result_ok}
 use Rattle.tokens.specs.declared.class.Class.{Class}
 use Rattle.tokens.specs.declared.class.Class.TheVariants as class
 use Rattle.tokens.specs.declared.operator.Operator.{Operator}
+use Rattle.tokens.specs.declared.operator.Operator.TheVariants as op
 use Rattle.tokens.specs.declared.table.Row.{Row}
 use Rattle.tokens.specs.Operators.{code_of, operators, lengthened}
 use Rattle.tokens.specs.Table.{column_of, classes, code_or0, operator_of}
@@ -18,7 +19,7 @@ row_of o = record { next = map (λ c. code_or0 (lengthened c o)) classes }
 abbrev pub rows : List Row
 rows = record { next = replicate 17 0 } ∷ map row_of operators
 
-class_at : (c : Class) → get_or classes (column_of c) class.Other ≡ c
+pub class_at : (c : Class) → get_or classes (column_of c) class.Other ≡ c
 class_at c = search rules
 
 row_at : (o : Operator) (d : Row) → get_or rows (code_of o) d ≡ row_of o
@@ -29,6 +30,9 @@ entry o c d h =
     ap (λ (r : Row). get_or r.next (column_of c) 0) (row_at o d)
     ∙ get_or-map (λ x. code_or0 (lengthened x o)) classes (column_of c) class.Other 0 h
     ∙ ap (λ x. code_or0 (lengthened x o)) (class_at c)
+
+operator_at : (o : Operator) → get_or operators (code_of o - 1) op.Newline ≡ o
+operator_at o = search rules
 
 operator_back : (o : Operator) → operator_of (code_of o) ≡ Some o
 operator_back o = search rules

@@ -3,7 +3,7 @@ use Rattle.aliases.specs.Rows.{names, entry}
 use Rattle.aliases.specs.Tables.{rows, aliases_of}
 use Rattle.aliases.proofs.Apart.{distinct, apart_if}
 use Rattle.aliases.proofs.Changes.{length_row, set_row, push_row, renewed, pushed}
-use Rattle.aliases.proofs.Defined.{another, newly}
+use Rattle.aliases.proofs.Defined.{another_made, newly_made}
 use Rattle.aliases.proofs.table.AliasTable.define.Goals as goal
 
 pub invariant_of-self : goal.invariant_of-self
@@ -42,7 +42,7 @@ returns-in-Some-clause-after c =
     let l : i < t.count = omega (arith, f.found.0, length_row t.slots t.count all) in
     rw (set_row t.slots t.count all i a l)
     ((renewed (rows t) n v i f.found.0 f.found.1 (distinct (names (rows t)) t.different) f.value (entry a) c.in_ok-alias.ensures.1).1
-    ∙ another n v c.in_ok-alias.ensures.0 (aliases_of t) _ (ap is_some f.value))
+    ∙ another_made (aliases_of t) n v c.in_ok-alias.ensures.0 _ (ap is_some f.value))
 
 pub returns-in-None-2-clause-after : goal.returns-in-None-2-clause-after
 returns-in-None-2-clause-after c =
@@ -54,4 +54,4 @@ returns-in-None-2-clause-after c =
     let all : t.count ≤ length t.slots = omega (arith, t.within) in
     rw (push_row t.slots t.count all a (omega (arith, t.within, c.if-self-eq-ALIAS_LIMIT.false)))
     ((pushed (rows t) n v f.found (distinct (names (rows t)) t.different) f.value (entry a) c.in_ok-alias.ensures.1).1
-    ∙ newly n v c.in_ok-alias.ensures.0 (aliases_of t) _ (ap is_some f.value) (omega (arith, t.within, length_row t.slots t.count all, c.if-self-eq-ALIAS_LIMIT.false)))
+    ∙ newly_made (aliases_of t) n v c.in_ok-alias.ensures.0 _ (ap is_some f.value) (omega (arith, t.within, length_row t.slots t.count all, c.if-self-eq-ALIAS_LIMIT.false)))
