@@ -1,6 +1,6 @@
 -- A letter of a run of a word leaves the reader in the run. Assumes nothing.
 use Rattle.std.proofs.Common.{◌≡◌, ℕ, List, Ok, Err, Result, refl, ap, ◌∙◌, arith}
-use Rattle.std.specs.Prelude.{OnOk}
+use Rattle.std.specs.Prelude.{OnOk, OnErr}
 use Rattle.basics.specs.declared.refusal.Refusal.{Refusal}
 use Rattle.tokens.specs.declared.begun.Begun.{Begun}
 use Rattle.tokens.specs.declared.begun.Begun.TheVariants as begun
@@ -19,6 +19,7 @@ use Rattle.reader.specs.Pens.{Page, put_on, step_on}
 use Rattle.reader.specs.Held.{result_of}
 use Rattle.reader.specs.Runs.{run_in, run_of, text_run}
 use Rattle.reader.specs.Sheets.{Sheets}
+use Rattle.reader.specs.declared.runs.Run.{Run}
 
 module _ {S : Type 0} (W : Sheets S) (i j : State) (q : Page S) where
   abbrev went : Result (Held State (Page S)) Refusal
@@ -61,3 +62,8 @@ module _ {S X : Type 0} (W : Sheets S) (b : ℕ) (i j : State) (p q : Page S) wh
   pub quoted_keeps : (r : Result X Refusal) → result_of r (held j q) ≡ step_on W (quoted b WordHere i) p → OnOk r (run_of j ≡ text_run begun.Nothing (top_of i.frames))
   quoted_keeps (Ok x) h = ap run_of (after_letter W (noted b (enter i)) j q i.word.mode WordHere (Letter (marked Quoted b)) p h)
   quoted_keeps (Err e) h = tt
+
+-- a letter that is refused leaves the state as it was, and so in the run
+pub goes_on : {X : Type 0} (i j : State) (u : Run) (r : Result X Refusal) → OnOk r (run_of j ≡ u) → OnErr r (j ≡ i) → run_of i ≡ u → run_of j ≡ u
+goes_on i j u (Ok x) o k h = o
+goes_on i j u (Err e) o k h = ap run_of k ∙ h

@@ -1,5 +1,5 @@
-mod Letters
-mod Paging
+pub mod Letters
+pub mod Paging
 mod Turning
 mod Passing
 mod Keeping

@@ -19,7 +19,8 @@ use Rattle.commands.specs.declared.stage.Stage.TheVariants.{Start, Must, Head, A
 use Rattle.commands.specs.Bodies.{read}
 use Rattle.commands.specs.Redirections.{is_free}
 use Rattle.commands.specs.Roles.{is_name_use, use_of}
-use Rattle.source.specs.declared.symbol.Sign.TheVariants.{Byte}
+use Rattle.source.specs.declared.symbol.Sign.{Sign}
+use Rattle.source.specs.declared.symbol.Sign.TheVariants.{Byte, Hole, AliasEnd}
 use Rattle.source.specs.declared.symbol.Symbol.{Symbol}
 use Rattle.source.specs.Symbols.{first, rest, symbol}
 use Rattle.reading.specs.declared.act.Act.TheVariants.{WordHere}
@@ -343,3 +344,22 @@ single_keeps i h = ap (λ (t : Top). text_run begun.Nothing t) (stands run.Singl
 
 pub double_keeps : (i : State) → run_of i ≡ run.Double → text_run begun.Nothing (top_of i.frames) ≡ run.Double
 double_keeps i h = ap (λ (t : Top). text_run begun.Nothing t) (stands run.Double i h).1
+
+-- where the command's name has come, no word is replaced
+
+not_named : (r e : Bool) (i : State) (t : Top) → is_name_use (use_here i) ≡ false → (elim e as (λ _. Bool) [ true ↦ false | false ↦ named_in r i t ]) ≡ false
+not_named r true i t h = refl
+not_named r false i top.Command h =
+    and_right (is_nothing i.begun) (plain_name r i.word.mode && (is_free i.command.awaited && is_name_use (use_here i)))
+    (and_right (plain_name r i.word.mode) (is_free i.command.awaited && is_name_use (use_here i)) (and_right (is_free i.command.awaited) (is_name_use (use_here i)) h))
+not_named r false i top.Single h = refl
+not_named r false i top.Double h = refl
+
+pub no_name : (x : Sign) (c : Control) → is_name_use (use_here c.at) ≡ false → candidate_is x c ≡ false
+no_name (Byte b) c h = and_right (ends_word (class_of b)) (named (redirects (class_of b)) c) (not_named (redirects (class_of b)) c.escape c.at (top_of c.at.frames) h)
+no_name (Hole d) c h = refl
+no_name AliasEnd c h = not_named false c.escape c.at (top_of c.at.frames) h
+
+pub no_name_at : (x : Sign) (c : Control) → (c.at.command.stage ≡ Args) ⊎ (c.at.command.stage ≡ Done) → candidate_is x c ≡ false
+no_name_at x c (inl h) = no_name x c (ap (λ (g : Stage). is_name_use (use_of g (reserved c.at.word) (assigned c.at.word.mode))) h)
+no_name_at x c (inr h) = no_name x c (ap (λ (g : Stage). is_name_use (use_of g (reserved c.at.word) (assigned c.at.word.mode))) h)

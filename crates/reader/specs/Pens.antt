@@ -56,9 +56,16 @@ sign_on W AliasEnd c p = move_on W (alias_end c) p
 abbrev pub paged : {C S : Type 0} → Page S → Result (Held C S) Refusal → Result (Held C (Page S)) Refusal
 paged p r = and r (λ h. Ok (held h.at (with_sheet p h.sheet)))
 
--- a step is laid on the page at which the pen stood: what the call answers, and the state and the pen that it leaves
-abbrev pub Lays : {W : Type 0} → sink.Ghosts W → Step → Pen W → Result (Unit {0}) Refusal → held_state.State → Pen W → Type 0
-Lays K s p r i q = result_of r (held (state_of i) (page_of K.sheet q)) ≡ step_on K.writes s (page_of K.sheet p)
+-- a pen is still at its place, and writes on the same sink
+pub record SamePen {W : Type 0} (old new : Pen W) : Type 0 where
+  pub place : new.place ≡ old.place
+  pub sink : new.out.ghost_name ≡ old.out.ghost_name
 
-abbrev pub LaysMove : {W : Type 0} → sink.Ghosts W → Move → Pen W → Result (Unit {0}) Refusal → held_reader.Reader → Pen W → Type 0
-LaysMove K m p r c q = result_of r (held (control_of c) (page_of K.sheet q)) ≡ move_on K.writes m (page_of K.sheet p)
+-- a step is laid on the page at which the pen stood: what the call answers, and the state and the pen that it leaves. After a refusal too it is the same pen
+pub record Lays {W : Type 0} (K : sink.Ghosts W) (s : Step) (p : Pen W) (r : Result (Unit {0}) Refusal) (i : held_state.State) (q : Pen W) : Type 0 where
+  pub laid : result_of r (held (state_of i) (page_of K.sheet q)) ≡ step_on K.writes s (page_of K.sheet p)
+  pub pen : SamePen p q
+
+pub record LaysMove {W : Type 0} (K : sink.Ghosts W) (m : Move) (p : Pen W) (r : Result (Unit {0}) Refusal) (c : held_reader.Reader) (q : Pen W) : Type 0 where
+  pub laid : result_of r (held (control_of c) (page_of K.sheet q)) ≡ move_on K.writes m (page_of K.sheet p)
+  pub pen : SamePen p q

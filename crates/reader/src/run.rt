@@ -5,7 +5,7 @@ ghost use Rattle.reading.specs.Laid.{held};
 ghost use Rattle.reader.specs.Held.{result_of};
 ghost use Rattle.reader.specs.Holding.{control_of};
 ghost use Rattle.reader.specs.Onto.{candidate_is};
-ghost use Rattle.reader.specs.Pens.{page_of, sign_on};
+ghost use Rattle.reader.specs.Pens.{page_of, sign_on, SamePen};
 ghost use Rattle.reader.specs.Turns.{IsFewer, Turns, candidate_next, goes_on, goes_replaced, own_rest_of, place_next, rest_of};
 
 use crate::sink::{Pen, Sink};
@@ -42,8 +42,9 @@ impl Reader {
 
     // The symbol does its own work.
     fn step<W: Sink>(&mut self, sign: Sign, pen: &mut Pen<W>) -> Result<(), Refusal>
-        ensures { result_of result (held (control_of self.new) (page_of W.Sink.sheet pen.new))
+        ensures laid { result_of result (held (control_of self.new) (page_of W.Sink.sheet pen.new))
             ≡ sign_on W.Sink.writes sign (control_of self.old) (page_of W.Sink.sheet pen.old) }
+        ensures pen { SamePen pen.old pen.new }
     {
         match sign {
             Sign::Byte(b) => self.byte(b, pen),

@@ -1,5 +1,5 @@
 // Runs of letters. Where the reader stands is asked once for a run of them, so that each letter then costs little.
-ghost use Rattle.std.specs.Prelude.{◌≡◌, OnOk};
+ghost use Rattle.std.specs.Prelude.{◌≡◌};
 ghost use Rattle.reading.specs.States.{calm};
 ghost use Rattle.reader.specs.Holding.{state_of};
 ghost use Rattle.reader.specs.Pens.{Lays};
@@ -71,7 +71,7 @@ impl State {
     fn letter<W: Sink>(&mut self, run: Run, b: u8, pen: &mut Pen<W>) -> Result<(), Refusal>
         requires { run_of (state_of self.old) ≡ run }
         ensures lays { Lays W.Sink (letter_of run b (state_of self.old)) pen.old result self.new pen.new }
-        ensures run { OnOk result (run_of (state_of self.new) ≡ run) }
+        ensures run { run_of (state_of self.new) ≡ run }
     {
         match run {
             Run::Nowhere => Ok(()),

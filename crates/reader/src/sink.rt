@@ -49,23 +49,26 @@ impl<W: Sink> Pen<'_, W> {
     ghost use Rattle.reading.specs.States.{State};
     ghost use Rattle.reading.specs.Steps.{writes, done};
     ghost use Rattle.reading.specs.Laid.{held};
-    ghost use Rattle.reader.specs.Pens.{page_of, put_on, fill_on, refused_on, step_on};
+    ghost use Rattle.reader.specs.Pens.{page_of, put_on, fill_on, refused_on, step_on, SamePen};
 
     pub fn put(&mut self, act: Act) -> Result<(), Refusal>
-        ensures { result_of result (page_of W.Sink.sheet self.new) ≡ put_on W.Sink.writes act (page_of W.Sink.sheet self.old) }
+        ensures laid { result_of result (page_of W.Sink.sheet self.new) ≡ put_on W.Sink.writes act (page_of W.Sink.sheet self.old) }
+        ensures pen { SamePen self.old self.new }
     {
         self.out.put(act, self.place)
     }
 
     pub fn letter(&mut self, mark: Mark, byte: u8) -> Result<(), Refusal>
-        ensures { result_of result (page_of W.Sink.sheet self.new) ≡ put_on W.Sink.writes (act.Letter (marked mark byte)) (page_of W.Sink.sheet self.old) }
+        ensures laid { result_of result (page_of W.Sink.sheet self.new) ≡ put_on W.Sink.writes (act.Letter (marked mark byte)) (page_of W.Sink.sheet self.old) }
+        ensures pen { SamePen self.old self.new }
     {
         self.out.put_letter(Letter { mark, byte }, self.place)
     }
 
     // Letters of one mark, one after another.
     pub fn letters(&mut self, mark: Mark, bytes: &[u8]) -> Result<(), Refusal>
-        ensures { (i : State) → result_of result (held i (page_of W.Sink.sheet self.new)) ≡ step_on W.Sink.writes (writes mark bytes.now (done i)) (page_of W.Sink.sheet self.old) }
+        ensures laid { (i : State) → result_of result (held i (page_of W.Sink.sheet self.new)) ≡ step_on W.Sink.writes (writes mark bytes.now (done i)) (page_of W.Sink.sheet self.old) }
+        ensures pen { SamePen self.old self.new }
     {
         for &byte in bytes {
             self.letter(mark, byte)?;
@@ -75,7 +78,8 @@ impl<W: Sink> Pen<'_, W> {
 
     // The letter of a hole.
     pub fn hole(&mut self, digit: u8) -> Result<(), Refusal>
-        ensures { result_of result (page_of W.Sink.sheet self.new) ≡ fill_on W.Sink.writes digit (page_of W.Sink.sheet self.old) }
+        ensures laid { result_of result (page_of W.Sink.sheet self.new) ≡ fill_on W.Sink.writes digit (page_of W.Sink.sheet self.old) }
+        ensures pen { SamePen self.old self.new }
     {
         self.out.put_hole(digit)
     }

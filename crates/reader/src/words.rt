@@ -1,5 +1,5 @@
 // A word begins, goes on and ends.
-ghost use Rattle.std.specs.Prelude.{◌≡◌, ◌&&◌, []};
+ghost use Rattle.std.specs.Prelude.{◌≡◌, ◌&&◌, [], OnErr};
 ghost use Rattle.commands.specs.Roles.{use_of};
 ghost use Rattle.commands.specs.declared.awaited.Awaited.TheVariants as awaited;
 ghost use Rattle.reading.specs.States.{command, set_command, set_word, gap, assigned, depth};
@@ -101,7 +101,8 @@ impl State {
 
     // A bare letter; `from` says where a word begins with it.
     pub fn bare<W: Sink>(&mut self, b: u8, from: Act, pen: &mut Pen<W>) -> Result<(), Refusal>
-        ensures { Lays W.Sink (bare b from (state_of self.old)) pen.old result self.new pen.new }
+        ensures lays { Lays W.Sink (bare b from (state_of self.old)) pen.old result self.new pen.new }
+        ensures kept { OnErr result (state_of self.new ≡ state_of self.old) }
     {
         if let Mode::Gap = self.word.mode {
             pen.put(from)?;
@@ -113,7 +114,8 @@ impl State {
     }
 
     pub fn quoted<W: Sink>(&mut self, b: u8, from: Act, pen: &mut Pen<W>) -> Result<(), Refusal>
-        ensures { Lays W.Sink (quoted b from (state_of self.old)) pen.old result self.new pen.new }
+        ensures lays { Lays W.Sink (quoted b from (state_of self.old)) pen.old result self.new pen.new }
+        ensures kept { OnErr result (state_of self.new ≡ state_of self.old) }
     {
         if let Mode::Gap = self.word.mode {
             pen.put(from)?;

@@ -23,7 +23,7 @@ returns-in_ok-end-in-None-clause-goes g c =
     let k = control_of c.args.self.now in
     let s = g.W.Sink.sheet c.args.out.now in
     let e = p.end in
-    let w = move_went W _ (end k) (control_of c.end.new.self) (page_of g.W.Sink.sheet c.end.new.pen) c.in_ok-end-in-None.ensures in
+    let w = move_went W _ (end k) (control_of c.end.new.self) (page_of g.W.Sink.sheet c.end.new.pen) c.in_ok-end-in-None.ensures.laid in
     let ends : ◌≡◌ {A = Result g.W.Sink.Sheet Refusal} (Ok (g.W.Sink.sheet c.end.new.pen.out.now)) (own_rest_of g.W.Sink p k c.args.out.now) =
     sym (own_at_end W (aliases_of p.table).named e p.left p.coming p.names k s (sym c.in-None.is ∙ c.requires)
     ∙ ap (λ (n : ℕ). and (lays_move W n (end k) s) (λ h. Ok h.sheet)) (sym c.end_place-place.ensures)
@@ -44,7 +44,7 @@ returns-in_ok-step-in-Some-clause-goes g c =
     let is = sym c.in-Some.is ∙ c.requires in
     let d = control_of c.step.new.self in
     let o = c.step.new.pen.out.now in
-    let w = sign_went W _ x.sign k d (page_of g.W.Sink.sheet c.step.new.pen) c.in_ok-step-in-Some.ensures in
+    let w = sign_went W _ x.sign k d (page_of g.W.Sink.sheet c.step.new.pen) c.in_ok-step-in-Some.ensures.laid in
     let goes : rest_of g.W.Sink c.take.new.self d o ≡ own_rest_of g.W.Sink p k c.args.out.now =
     ap (λ (f : Front). rest_of g.W.Sink f d o) c.take.ensures ∙ onward_is W p x d (g.W.Sink.sheet o) is
     ∙ sym (own_at_symbol W al e p.left ss ns k s x is
@@ -62,7 +62,7 @@ returns-in_err-end-in-None-clause-goes g c =
     rw (f.1, f.2)
     (sym (own_at_end W (aliases_of p.table).named e p.left p.coming p.names k s (sym c.in-None.is ∙ c.requires)
     ∙ ap (λ (n : ℕ). and (lays_move W n (end k) s) (λ h. Ok h.sheet)) (sym c.end_place-place.ensures)
-    ∙ ap (λ (a : Result (Held Control g.W.Sink.Sheet) Refusal). and a (λ h. Ok h.sheet)) (sym (move_refused W _ (end k) c.in_err-end-in-None.field-0.0 c.in_err-end-in-None.ensures))))
+    ∙ ap (λ (a : Result (Held Control g.W.Sink.Sheet) Refusal). and a (λ h. Ok h.sheet)) (sym (move_refused W _ (end k) c.in_err-end-in-None.field-0.0 c.in_err-end-in-None.ensures.laid))))
 
 pub returns-in_err-step-in-Some-clause-goes : goal.returns-in_err-step-in-Some-clause-goes
 returns-in_err-step-in-Some-clause-goes g c =
@@ -78,4 +78,4 @@ returns-in_err-step-in-Some-clause-goes g c =
     let f = err_from_is_err_and c.from_residual-in_err-step-in-Some.result c.from_residual-in_err-step-in-Some.ensures.1 in
     rw (f.1, f.2)
     (sym (own_at_symbol W al e p.left ss ns k s x (sym c.in-Some.is ∙ c.requires)
-    ∙ ap (λ (a : Result (Held Control g.W.Sink.Sheet) Refusal). and a (λ h. read_on W al e p.left (rest ss) (names_after x.sign ns) h.at h.sheet)) (sym (sign_refused W _ x.sign k c.in_err-step-in-Some.field-0.0 c.in_err-step-in-Some.ensures))))
+    ∙ ap (λ (a : Result (Held Control g.W.Sink.Sheet) Refusal). and a (λ h. read_on W al e p.left (rest ss) (names_after x.sign ns) h.at h.sheet)) (sym (sign_refused W _ x.sign k c.in_err-step-in-Some.field-0.0 c.in_err-step-in-Some.ensures.laid))))

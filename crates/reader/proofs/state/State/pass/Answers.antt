@@ -32,7 +32,7 @@ returns-in_err-letter g c =
     record {
       goes = rw (f.1, f.2)
           (letter_refused W (aliases_of p.table).named (p.end) p.left ss (p.names) i s b q x is (letter_no_word b i r c.loop-s.invariant.0 l) (letter_moves W q s b i r c.loop-s.invariant.0 l)
-          c.in_err-letter.field-0.0 (step_refused W _ x c.in_err-letter.field-0.0 c.in_err-letter.ensures.lays) ∙ c.loop-s.invariant.1);
+          c.in_err-letter.field-0.0 (step_refused W _ x c.in_err-letter.field-0.0 c.in_err-letter.ensures.lays.laid) ∙ c.loop-s.invariant.1);
       falls = c.loop-s.invariant.2;
       fewer = λ z. let n : ◌≡◌ {A = ℕ} 0 1 = cc in absurd (omega arith);
     }
@@ -53,7 +53,7 @@ loop-s-preserved g c =
     let x = letter_of r b i in
     let j = state_of c.letter.new.self in
     let o = c.letter.new.pen.out.now in
-    let w = step_went W _ x j (page_of g.W.Sink.sheet c.letter.new.pen) c.in_ok-letter.ensures.lays in
+    let w = step_went W _ x j (page_of g.W.Sink.sheet c.letter.new.pen) c.in_ok-letter.ensures.lays.laid in
     let goes : rest_of g.W.Sink c.take.new.self (calm j) o ≡ rest_of g.W.Sink c.args.source.now (calm (state_of c.args.self.now)) c.args.out.now =
     ap (λ (f : Front). rest_of g.W.Sink f (calm j) o) c.take.ensures ∙ onward_is W p (symbol (Byte b) q) (calm j) (g.W.Sink.sheet o) is
     ∙ letter_went W (aliases_of p.table).named (p.end) p.left ss ns i s b q x is (letter_no_word b i r c.loop-s.invariant.0 l) (letter_moves W q s b i r c.loop-s.invariant.0 l) j (g.W.Sink.sheet o) w.0
@@ -80,7 +80,7 @@ returns-in_err-work_behind g c =
     record {
       goes = rw (f.1, f.2)
           (letter_refused W (aliases_of p.table).named (p.end) p.left ss (p.names) i s b q x is (work_no_word b i r c.loop-s.invariant.0 l) (work_moves W q s b i r c.loop-s.invariant.0 l)
-          c.in_err-work_behind.field-0.0 (step_refused W _ x c.in_err-work_behind.field-0.0 c.in_err-work_behind.ensures) ∙ c.loop-s.invariant.1);
+          c.in_err-work_behind.field-0.0 (step_refused W _ x c.in_err-work_behind.field-0.0 c.in_err-work_behind.ensures.laid) ∙ c.loop-s.invariant.1);
       falls = c.loop-s.invariant.2;
       fewer = λ z. let n : ◌≡◌ {A = ℕ} 0 1 = cc in absurd (omega arith);
     }
@@ -101,7 +101,7 @@ returns-in-Some g c =
     let x = work_of r b i in
     let j = state_of c.work_behind.new.self in
     let o = c.work_behind.new.pen.out.now in
-    let w = step_went W _ x j (page_of g.W.Sink.sheet c.work_behind.new.pen) c.in_ok-work_behind.ensures in
+    let w = step_went W _ x j (page_of g.W.Sink.sheet c.work_behind.new.pen) c.in_ok-work_behind.ensures.laid in
     let less = fewer p.left ss (symbol (Byte b) q) is in
     let goes : rest_of g.W.Sink c.take-in-Some.new.self (calm j) o ≡ rest_of g.W.Sink c.args.source.now (calm (state_of c.args.self.now)) c.args.out.now =
     ap (λ (f : Front). rest_of g.W.Sink f (calm j) o) c.take-in-Some.ensures ∙ onward_is W p (symbol (Byte b) q) (calm j) (g.W.Sink.sheet o) is
