@@ -1,12 +1,10 @@
 // The here-documents that wait for their bodies, in order.
-ghost use Rattle.std.specs.Prelude.{◌≡◌, ◌↔◌, ◌<◌, ◌≤◌, [], ◌∷◌, ◌++◌, length, take, IsOk, OnOk, OnErr, slice_index_or};
-ghost use Rattle.commands.specs.Bodies.{no_document, line_byte, line_is};
+ghost use Rattle.std.specs.Prelude.{◌≡◌, ◌≤◌, length};
 
 use crate::body::Document;
 use crate::line::{Line, LineByte};
 use arrayvec::ArrayVec;
 use basics::stack::Full;
-use std::marker::Model;
 use tokens::kept::Kept;
 
 // Whether leading tabs are dropped, and the delimiter's letters.
@@ -29,27 +27,20 @@ impl Waiting {
     }
 }
 
-// In contracts a queue is the list of the here-documents that wait.
+// In contracts a queue is the list of the here-documents that wait, at most 8 of them.
 #[derive(Drop)]
 pub struct Queue {
     held: ArrayVec<Waiting, 8>,
-}
-
-impl Model for Queue {
-    ghost use Rattle.std.specs.Prelude.{List, map};
-    ghost use Rattle.commands.specs.Bodies.{Document};
-    ghost use Rattle.commands.specs.Queues.{document_of};
-
-    ghost Value = { List Document };
-
-    ghost view = { λ q. map document_of q.held.items };
+    ghost within: { length held.items ≤ 8 },
 }
 
 impl Queue {
-    ghost use Rattle.commands.specs.Queues.{document_of, seen};
+    ghost use Rattle.std.specs.Prelude.{◌↔◌, ◌<◌, [], ◌∷◌, ◌++◌, take, IsOk, OnOk, OnErr, slice_index_or};
+    ghost use Rattle.commands.specs.Bodies.{no_document, line_byte, line_is};
+    ghost use Rattle.commands.specs.Queues.{document_of, seen, waiting_of};
 
     pub fn new() -> Self
-        ensures { result ≡ [] }
+        ensures { waiting_of result ≡ [] }
     {
         Queue {
             held: ArrayVec::new(),
@@ -58,22 +49,22 @@ impl Queue {
 
     // One more at the end, unless 8 wait.
     pub fn push(&mut self, w: Waiting) -> Result<(), Full>
-        ensures fits { IsOk result ↔ (length self.old < 8) }
-        ensures queued { OnOk result (self.new ≡ self.old ++ document_of w ∷ []) }
-        ensures kept { OnErr result (self.new ≡ self.old) }
+        ensures fits { IsOk result ↔ (length (waiting_of self.old) < 8) }
+        ensures queued { OnOk result (waiting_of self.new ≡ waiting_of self.old ++ document_of w ∷ []) }
+        ensures kept { OnErr result (waiting_of self.new ≡ waiting_of self.old) }
     {
         self.held.try_push(w).map_err(|_| Full)
     }
 
     // Those from the n-th on were read.
     pub fn cut(&mut self, n: usize)
-        ensures { self.new ≡ take n self.old }
+        ensures { waiting_of self.new ≡ take n (waiting_of self.old) }
     {
         self.held.truncate(n);
     }
 
     pub fn count(&self) -> usize
-        ensures value { result ≡ length self.now }
+        ensures value { result ≡ length (waiting_of self.now) }
         ensures fits { result ≤ 8 }
     {
         self.held.len()
@@ -81,7 +72,7 @@ impl Queue {
 
     // The n-th, or one without a delimiter.
     fn document(&self, n: usize) -> Document<'_>
-        ensures { seen result ≡ slice_index_or self.now n no_document }
+        ensures { seen result ≡ slice_index_or (waiting_of self.now) n no_document }
     {
         let none = Document {
             dash: false,
@@ -92,21 +83,21 @@ impl Queue {
 
     // One byte of the n-th's body.
     pub fn line_byte(&self, n: usize, line: Line, b: u8) -> LineByte
-        ensures { result ≡ line_byte (slice_index_or self.now n no_document) line b }
+        ensures { result ≡ line_byte (slice_index_or (waiting_of self.now) n no_document) line b }
     {
         self.document(n).line_byte(line, b)
     }
 
     // The line is the n-th's delimiter.
     pub fn line_is(&self, n: usize, line: Line) -> bool
-        ensures { result ≡ line_is (slice_index_or self.now n no_document) line }
+        ensures { result ≡ line_is (slice_index_or (waiting_of self.now) n no_document) line }
     {
         self.document(n).line_is(line)
     }
 
     // The n-th's delimiter.
     pub fn delimiter(&self, n: usize) -> &[u8]
-        ensures { result.now ≡ (slice_index_or self.now n no_document).delimiter }
+        ensures { result.now ≡ (slice_index_or (waiting_of self.now) n no_document).delimiter }
     {
         self.document(n).delimiter
     }

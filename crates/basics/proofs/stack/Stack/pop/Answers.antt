@@ -4,4 +4,6 @@ use Rattle.basics.proofs.Stacking.{below_is_rest}
 use Rattle.basics.proofs.stack.Stack.pop.Goals as goal
 
 pub returns-then-self : goal.returns-then-self
-returns-then-self g c = rw (← c.self.view_is) (sym (below_is_rest (drop c.self.inside.from c.self.inside.held) ∙ drop-drop 1 c.self.inside.from c.self.inside.held))
+returns-then-self g c =
+    let s = c.args.self.now in
+    sym (below_is_rest (drop s.from s.held) ∙ drop-drop 1 s.from s.held)

@@ -1,10 +1,7 @@
-use Rattle.std.proofs.Common.{map, take, sym, ap, ◌∙◌}
+use Rattle.std.proofs.Common.{map, sym, ap, ◌∙◌}
 use Rattle.std.proofs.lemmas.List.{take-map}
 use Rattle.commands.specs.Queues.{document_of}
 use Rattle.commands.proofs.queue.Queue.cut.Goals as goal
 
 pub returns : goal.returns
-returns c =
-    ap (map document_of) c.truncate.ensures.items
-    ∙ sym (take-map document_of c.args.n c.self.inside.held.items)
-    ∙ ap (take c.args.n) c.self.view_is
+returns c = ap (map document_of) c.truncate.ensures.items ∙ sym (take-map document_of c.args.n c.args.self.now.held.items)
