@@ -1,5 +1,6 @@
 -- The places that are kept in memory, and beside them anything else that a reading leaves. Assumes nothing.
 use Rattle.std.specs.Prelude.{ℕ, List, [], ◌∷◌, Ok, Result}
+use Rattle.basics.specs.Stacks.{entries}
 use Rattle.basics.specs.declared.refusal.Refusal.{Refusal}
 use Rattle.reading.specs.declared.act.Act.{Act}
 use Rattle.reading.specs.Laid.{and}
@@ -9,7 +10,7 @@ use Rattle.listing.specs.declared.places.WordPlaces.{WordPlaces}
 use Rattle.listing.specs.declared.places.Places.{Places}
 
 abbrev pub words_of : WordPlaces → reading.WordPlaces
-words_of w = record { word = w.word; all = w.all; outer = w.outer }
+words_of w = record { word = w.word; all = w.all; outer = entries w.outer }
 
 abbrev pub places_of : Places → reading.Places
 places_of r = record { words = words_of r.words; marks = record { backslash = r.marks.backslash; dollar = r.marks.dollar; operator = r.marks.operator; body = r.marks.body } }

@@ -1,6 +1,6 @@
 use Rattle.std.proofs.Common.{◌≡◌, ℕ, ◌+◌, List, [], ◌∷◌, refl}
 use Rattle.std.specs.Option.{unwrap_or}
-use Rattle.basics.specs.Stacks.{top, below}
+use Rattle.basics.specs.Stacks.{top, below, entries}
 use Rattle.reading.specs.Listed.{WordPlaces, closed}
 use Rattle.listing.proofs.places.WordPlaces.close.Goals as goal
 
@@ -13,4 +13,4 @@ closing word all p (q ∷ qs) = refl
 pub returns : goal.returns
 returns c =
     let w = c.args.self.now in
-    rw (c.pop.ensures, c.unwrap_or-self.ensures, c.top.ensures) (closing w.word w.all c.args.place w.outer)
+    rw (c.pop.ensures, c.unwrap_or-self.ensures, c.top.ensures) (closing w.word w.all c.args.place (entries w.outer))
