@@ -20,6 +20,11 @@ pub by_aliases : (d : Option Refusal) (x y : Aliases) (l : Option (List ℕ)) (t
 by_aliases None x y l t = refl
 by_aliases (Some f) x y l t = refl
 
+-- where a check lets pass, the next is heard
+pub heard : (c d : Option Refusal) (z : Unit {0}) → Ok z ≡ answer c tt → or_else c d ≡ d
+heard None d z e = refl
+heard (Some f) d z e = let n : ◌≡◌ {A = ℕ} 0 1 = cc in absurd (omega arith)
+
 -- a template that is taken is no longer than it may be, and its holes are told
 
 let_pass : (x : Option Refusal) (r : Result ℕ Refusal) (h : ℕ) → Ok h ≡ unless_refused x r → (x ≡ None) × (Ok h ≡ r)

@@ -4,13 +4,12 @@ ghost use Rattle.orders.specs.Book.{start, alias, unalias, load, unload, alias_c
 ghost use Rattle.orders.specs.Holding.{book_of};
 ghost use Rattle.orders.specs.Making.{MakesCall};
 
-use crate::contents::Contents;
+use crate::contents::{Contents, HOLES};
 use crate::template::Template;
 use crate::text::Text;
 use aliases::table::AliasTable;
 use basics::refusal::{Reason, Refusal};
 use listing::check::check_template;
-use std::array;
 
 impl Contents {
     // Without template, texts and aliases.
@@ -19,8 +18,9 @@ impl Contents {
     {
         Contents {
             aliases: AliasTable::new(),
-            template: None,
-            texts: array::from_fn(|_| Text::empty()),
+            loaded: false,
+            template: Template::empty(),
+            texts: [Text::empty(); HOLES],
             bound: 0,
         }
     }
@@ -47,7 +47,8 @@ impl Contents {
     {
         self.none_loaded()?;
         let holes = check_template(template, &self.aliases)?;
-        self.template = Some(Template::keep(template, holes));
+        self.template.keep(template, holes);
+        self.loaded = true;
         Ok(())
     }
 
@@ -55,10 +56,10 @@ impl Contents {
     pub fn unload(&mut self) -> Result<(), Refusal>
         ensures { MakesCall book_of (unload_check (book_of self.old)) unload self.old self.new result }
     {
-        if self.template.is_none() {
+        if !self.loaded {
             return Err(Reason::NoTemplate.at(0));
         }
-        self.template = None;
+        self.loaded = false;
         self.bound = 0;
         Ok(())
     }

@@ -13,11 +13,13 @@ use std::alloc::AllocError;
 // How many holes there may be: one for each digit.
 pub const HOLES: usize = 10;
 
-#[derive(Drop)]
+#[derive(Copy)]
 pub struct Contents {
     pub(crate) aliases: AliasTable,
-    pub(crate) template: Option<Template>,
-    pub(crate) texts: [Text; 10],
+    // Stays: a flag beside the template, and no Option, since no enum crosses to C.
+    pub(crate) loaded: bool,
+    pub(crate) template: Template,
+    pub(crate) texts: [Text; HOLES],
     // a bit for each hole that has a text, hole 0 the lowest
     pub(crate) bound: u16,
 }
@@ -27,10 +29,10 @@ impl Contents {
     pub(crate) fn none_loaded(&self) -> Result<(), Refusal>
         ensures { result ≡ answer (none_loaded (book_of self.now)) tt }
     {
-        match self.template {
-            None => Ok(()),
-            Some(_) => Err(Reason::TemplateLoaded.at(0)),
+        if self.loaded {
+            return Err(Reason::TemplateLoaded.at(0));
         }
+        Ok(())
     }
 }
 
@@ -40,11 +42,6 @@ impl Clone for Contents {
     ghost is_infallible = { λ _. ⊤ };
 
     fn clone(&self) -> Result<Self, AllocError> {
-        Ok(Contents {
-            aliases: self.aliases.clone()?,
-            template: self.template.clone()?,
-            texts: self.texts.clone()?,
-            bound: self.bound,
-        })
+        Ok(*self)
     }
 }

@@ -16,6 +16,7 @@ pub mod text;
 #[cfg(test)]
 mod tests {
     use crate::call::Call;
+    use crate::contents::Contents;
     use crate::desk::Desk;
     use crate::order::Order;
     use crate::outcome::Done;
@@ -24,6 +25,7 @@ mod tests {
     use listing::list::NO_RECORD;
     use listing::record::Sheet;
     use quoting::single::Single;
+    use std::alloc::AllocError;
 
     #[test]
     fn holds_one_template_at_a_time(rt: HostRuntime) {
@@ -48,6 +50,18 @@ mod tests {
         assert_eq!(rt; order.load(b"a b"), Err(Reason::OutOfPlace.at(0)));
         assert!(rt; order.unalias(b"a").is_ok());
         assert!(rt; order.load(b"a b").is_ok());
+    }
+
+    #[test]
+    fn clones_what_an_order_holds(rt: HostRuntime) -> Result<(), AllocError> {
+        let mut contents = Contents::new();
+        assert!(rt; contents.load(b"a @{1}").is_ok());
+        let mut second = contents.clone()?;
+        assert!(rt; second.unload().is_ok());
+        assert_eq!(rt; contents.load(b"a"), Err(Reason::TemplateLoaded.at(0)));
+        assert_eq!(rt; contents.template.clone()?.holes, 2);
+        assert_eq!(rt; contents.texts[0].clone()?.len, 0);
+        Ok(())
     }
 
     #[test]

@@ -1,16 +1,17 @@
 // A hole's text, in the order's own memory.
 ghost use Rattle.std.specs.Prelude.{⊤, ◌≡◌, ◌≤◌, [], length};
 
-use arrayvec::ArrayVec;
 use std::alloc::AllocError;
 
 // The most bytes that a text may have.
 pub const TEXT_LIMIT: usize = 128;
 
-#[derive(Drop)]
+// Stays: an array with its length, since it is copied as a number is and crosses to C, and an `ArrayVec` does neither.
+#[derive(Copy)]
 pub struct Text {
-    pub(crate) bytes: ArrayVec<u8, 128>,
-    ghost short: { length bytes.items ≤ 128 },
+    pub(crate) bytes: [u8; TEXT_LIMIT],
+    pub(crate) len: usize,
+    ghost within: { (len ≤ 128) × (length bytes ≡ 128) },
 }
 
 impl Text {
@@ -20,17 +21,9 @@ impl Text {
         ensures { text_of result ≡ [] }
     {
         Text {
-            bytes: ArrayVec::new(),
+            bytes: [0; TEXT_LIMIT],
+            len: 0,
         }
-    }
-
-    fn keep(text: &[u8]) -> Text
-        requires { length text.now ≤ 128 }
-        ensures { text_of result ≡ text.now }
-    {
-        let mut bytes = ArrayVec::new();
-        let _ = bytes.try_extend_from_slice(text);
-        Text { bytes }
     }
 }
 
@@ -40,6 +33,6 @@ impl Clone for Text {
     ghost is_infallible = { λ _. ⊤ };
 
     fn clone(&self) -> Result<Self, AllocError> {
-        Ok(Text::keep(&self.bytes))
+        Ok(*self)
     }
 }
