@@ -5,7 +5,7 @@ use descent_lexer::item::Letter;
 use std::alloc::Global;
 
 // The words that no command may begin with.
-const RESERVED: [&str; 15] = [
+static RESERVED: [&str; 15] = [
     "!", "{", "}", "if", "then", "elif", "else", "fi", "while", "until", "do", "done", "for",
     "case", "esac",
 ];

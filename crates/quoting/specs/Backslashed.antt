@@ -1,15 +1,15 @@
 -- The form with backslashes: its pieces, its length, and that it is lawful. Assumes nothing.
-use Rattle.std.specs.Prelude.{◌≡◌, ℕ, ◌+◌, ◌*◌, ◌<◌, ◌≤◌, Bool, true, false, cond, ◌≢◌, List, [], ◌∷◌, length, Some, codes, ◌==◌, nat_eq, refl}
+use Rattle.std.specs.Prelude.{◌≡◌, ℕ, ◌+◌, ◌*◌, ◌<◌, ◌≤◌, Bool, true, false, cond, ◌≢◌, List, [], ◌∷◌, length, Some, codes, ◌==◌, refl}
 use Rattle.std.proofs.Common.{sym, ap, ◌∙◌, inl, inr, arith}
+use Rattle.std.proofs.Math.Nat.{le_refl, le_trans, le-add_right}
 use Rattle.std.proofs.lemmas.Bool.{cases_eq, eq-eqb, ne_eqb}
 use Rattle.std.proofs.lemmas.List.{append-nil}
-use Rattle.std.proofs.lemmas.List.Sums.{count_by-le-length}
 use Rattle.std.specs.List.{flat_map}
 use Rattle.basics.specs.Bytes.{newline, backslash, occurrences}
 use Rattle.quoting.specs.declared.form.State.TheVariants.{Bare, Escaped}
 use Rattle.quoting.specs.Forms.{delivered, with_byte, Lawful}
 use Rattle.quoting.specs.Backslashes.{escaped, backslashed, brink}
-use Rattle.quoting.specs.Joins.{joined_length}
+use Rattle.quoting.specs.Joins.{joined_length, joined_short}
 use Rattle.quoting.specs.Pieces.{pieced}
 use Rattle.quoting.specs.Steps.{by_step, escaped_byte}
 
@@ -44,9 +44,17 @@ pub backslashed_pieced : (text : List ℕ) → backslashed text ≡ pieced brink
 backslashed_pieced [] = refl
 backslashed_pieced (b ∷ text) = sym (append-nil (flat_map escaped (b ∷ text)))
 
+escaped_short : (b : ℕ) → length (escaped b) ≤ 3
+escaped_short b = by_test (b == newline)
+  where
+    by_test : (t : Bool) → length (cond t (codes "'\n'") (backslash ∷ b ∷ [])) ≤ 3
+    by_test true = le_refl 3
+    by_test false = le-add_right 2 1
+
+-- by lemmas alone, since a law of `Pieces` cites it
 pub backslashed_short : (text : List ℕ) → length (backslashed text) ≤ 3 * length text + 2
-backslashed_short [] = omega arith
-backslashed_short (b ∷ text) = omega (arith, pieces_length (b ∷ text), count_by-le-length (λ x. nat_eq x newline) (b ∷ text))
+backslashed_short [] = le_refl 2
+backslashed_short (b ∷ text) = le_trans (joined_short escaped 3 escaped_short (b ∷ text)) (le-add_right (3 * length (b ∷ text)) 2)
 
 pub backslashed_lawful : Lawful backslashed
 backslashed_lawful [] free = record { some = omega arith; reads = refl; short = omega arith }

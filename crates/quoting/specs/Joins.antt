@@ -1,6 +1,7 @@
 -- A form that is written piece by piece: what stands in front, then a piece for each byte of the text. Assumes nothing.
 use Rattle.std.specs.Prelude.{◌≡◌, ℕ, ◌+◌, ◌*◌, ◌<◌, ◌≤◌, cond, List, [], ◌∷◌, ◌++◌, length, take, drop, ◌==◌, slice_index}
 use Rattle.std.proofs.Common.{sym, ap, ◌∙◌, append_assoc, mul-add, mul-zero, arith, length-append, take-append-drop}
+use Rattle.std.proofs.Math.Nat.{le_of_eq, le_trans, add-le-add, add_comm, mul-suc}
 use Rattle.std.proofs.lemmas.List.{take_more, flat_map_more}
 use Rattle.std.proofs.lemmas.List.Concat.{flat_map-append}
 use Rattle.std.proofs.lemmas.List.Sums.{sum_by-cons}
@@ -31,6 +32,14 @@ module _ (f : ℕ → List ℕ) where
         omega (arith, ap length more, length-append (front ++ flat_map f (take i t)) bytes),
         l ∙ put_more (front ++ flat_map f (take i t)) bytes base page at p a ∙ ap (λ z. over z base) (sym more),
       )
+
+  -- Where no piece has more than k bytes, the pieces have no more than k for each byte of the text. By lemmas alone: a law of `Pieces` cites it.
+  pub joined_short : (k : ℕ) → ((b : ℕ) → length (f b) ≤ k) → (t : List ℕ) → length (flat_map f t) ≤ k * length t
+  joined_short k piece [] = le_of_eq (sym (mul-zero k))
+  joined_short k piece (b ∷ t) =
+      le_trans (le_of_eq (length-append (f b) (flat_map f t)))
+      (le_trans (add-le-add (piece b) (joined_short k piece t))
+      (le_of_eq (add_comm k (k * length t) ∙ sym (mul-suc k (length t)))))
 
   -- where each piece has k bytes, and at the byte x has m more, the length is told by a count
   module _ (x k m : ℕ) (piece : (b : ℕ) → length (f b) ≡ k + m * cond (b == x) 1 0) where

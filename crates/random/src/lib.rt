@@ -20,7 +20,8 @@ pub trait Numbers {
 
     // A number below `n`, or 0 where there is none.
     final fn below(&mut self, n: usize) -> usize
-        ensures { result < max n 1 }
+        ensures low { 0 < n → result < n }
+        ensures least { result < max n 1 }
     {
         if n == 0 {
             return 0;

@@ -12,7 +12,7 @@ fn repeat(out: &mut Vec<u8>, text: &str, times: usize) -> Result<(), AllocError>
 }
 
 // What stands in the innermost of many frames.
-const INMOST: [&str; 12] = [
+static INMOST: [&str; 12] = [
     "a",
     "a 'b'",
     "a \"b\"",
@@ -36,7 +36,7 @@ struct Way {
     least: usize,
 }
 
-const WAYS: [Way; 5] = [
+static WAYS: [Way; 5] = [
     Way {
         opener: "(",
         closer: ")",

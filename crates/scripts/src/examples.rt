@@ -8,7 +8,7 @@ pub fn example(n: usize) -> Option<&'static str>
     EXAMPLES.get(n).copied()
 }
 
-pub const EXAMPLES: [&str; 100] = [
+pub static EXAMPLES: [&str; 100] = [
     // quoting
     "a#b",
     "\\2>f",

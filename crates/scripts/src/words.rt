@@ -10,26 +10,26 @@ pub fn put(out: &mut Vec<u8>, text: &str) -> Result<(), AllocError>
 }
 
 // Command names, which may be the names of aliases too.
-pub const COMMAND_NAMES: [&str; 9] = ["a", "b", "ls", "e", "i", "2", "cat", "ab", "c"];
+pub static COMMAND_NAMES: [&str; 9] = ["a", "b", "ls", "e", "i", "2", "cat", "ab", "c"];
 
 // Words that no command may begin with.
-pub const RESERVED: [&str; 15] = [
+pub static RESERVED: [&str; 15] = [
     "!", "{", "}", "if", "then", "elif", "else", "fi", "while", "until", "do", "done", "for",
     "case", "esac",
 ];
 
 // Words of an alias's value.
-pub const ALIAS_WORDS: [&str; 14] = [
+pub static ALIAS_WORDS: [&str; 14] = [
     "a", "b", "ls", "-l", "x=1", "e", "2", "@{0}", "c", "_y=", "ab", "cat", "i", "if",
 ];
 
-pub const PLAINS: [&str; 12] = [
+pub static PLAINS: [&str; 12] = [
     "x", "-l", "12", "a=b", "f.txt", "a#b", "{", "done", "@", "%", "_y", "ls",
 ];
 
-pub const ASSIGNMENTS: [&str; 6] = ["x=", "y=1", "_z9=", "9x=", "x\\\n=2", "x''=3"];
+pub static ASSIGNMENTS: [&str; 6] = ["x=", "y=1", "_z9=", "9x=", "x\\\n=2", "x''=3"];
 
-pub const REDIRECTIONS: [&str; 9] = ["<", ">", ">>", "<&", ">&", "<>", ">|", ">\\\n>", "<\\\n"];
+pub static REDIRECTIONS: [&str; 9] = ["<", ">", ">>", "<&", ">&", "<>", ">|", ">\\\n>", "<\\\n"];
 
 // A delimiter as it is written, and the line that ends its body.
 #[derive(Clone, Copy)]
@@ -38,7 +38,7 @@ pub struct Delimiter {
     pub line: &'static str,
 }
 
-pub const DELIMITERS: [Delimiter; 8] = [
+pub static DELIMITERS: [Delimiter; 8] = [
     Delimiter {
         written: "E",
         line: "E",
@@ -73,9 +73,9 @@ pub const DELIMITERS: [Delimiter; 8] = [
     },
 ];
 
-pub const BODY_LINES: [&str; 8] = ["text", "\tE", "$x `y` \\", "E ", "'", "\t", "E\tF", ")"];
+pub static BODY_LINES: [&str; 8] = ["text", "\tE", "$x `y` \\", "E ", "'", "\t", "E\tF", ")"];
 
-pub const EXPANSIONS: [&str; 14] = [
+pub static EXPANSIONS: [&str; 14] = [
     "$x",
     "$x1_",
     "$1",
@@ -93,12 +93,12 @@ pub const EXPANSIONS: [&str; 14] = [
 ];
 
 // A single space more often than the others.
-pub const BLANKS: [&str; 9] = ["\t", "  ", " \\\n", "\\\n ", " ", " ", " ", " ", " "];
+pub static BLANKS: [&str; 9] = ["\t", "  ", " \\\n", "\\\n ", " ", " ", " ", " ", " "];
 
-pub const CONNECTORS: [&str; 7] = ["|", "&&", "||", "&\\\n&", "&", ";", " ; "];
+pub static CONNECTORS: [&str; 7] = ["|", "&&", "||", "&\\\n&", "&", ";", " ; "];
 
 // What stands between quotes of either kind.
-pub const QUOTED: [&str; 8] = ["b c", "#", "\n", "\t|", "(;)", "\\x", "", "="];
+pub static QUOTED: [&str; 8] = ["b c", "#", "\n", "\t|", "(;)", "\\x", "", "="];
 
 // A backslash in double quotes and what follows it.
-pub const ESCAPES: [&str; 7] = ["\\$", "\\`", "\\\"", "\\\\", "\\a", "\\'", "\\\n"];
+pub static ESCAPES: [&str; 7] = ["\\$", "\\`", "\\\"", "\\\\", "\\a", "\\'", "\\\n"];
