@@ -3,7 +3,7 @@ use crate::escape::EscapedByte;
 use crate::item::Item;
 use crate::listed::Listed;
 use crate::names::{code_name, kind_name, mark_letter};
-use crate::runs::{mark_of, of_one_mark};
+use crate::runs::{byte_of, mark_of, of_one_mark};
 use basics::refusal::Refusal;
 use commands::item::Kind;
 use listing::record::Record;
@@ -31,8 +31,8 @@ impl fmt::Display for Runs<'_> {
         for run in self.0.chunk_by(of_one_mark) {
             let mark = mark_letter(mark_of(run).ok_or(fmt::Error)?);
             write!(f, " {mark}:")?;
-            for letter in run {
-                let byte = EscapedByte((letter % 256) as u8);
+            for number in run {
+                let byte = EscapedByte(byte_of(*number).ok_or(fmt::Error)?);
                 write!(f, "{byte}")?;
             }
         }

@@ -22,26 +22,28 @@ pub struct Item<'a> {
 #[error("no item has these numbers")]
 pub struct UnknownItem;
 
+// The kind of a record; none where its numbers are no item's.
+pub fn kind_of(row: Record) -> Option<Kind>
+    ensures { result ≡ kind_of row.kind row.code }
+{
+    match row.kind {
+        1 => Some(Kind::Part),
+        2 => Some(Kind::Open),
+        3 => Some(Kind::Close),
+        4 => Role::try_from(row.code).ok().map(Kind::Word),
+        5 => Operator::try_from(row.code).ok().map(Kind::Operator),
+        6 => Some(Kind::Body),
+        _ => None,
+    }
+}
+
 impl TryFrom<Item<'_>> for Kind {
     type Error = UnknownItem;
 
     ghost try_from_gives = { λ item r. result_ok r ≡ kind_of item.record.kind item.record.code };
 
     fn try_from(item: Item<'_>) -> Result<Self, UnknownItem> {
-        let code = item.record.code;
-        match item.record.kind {
-            1 => Ok(Kind::Part),
-            2 => Ok(Kind::Open),
-            3 => Ok(Kind::Close),
-            4 => Role::try_from(code)
-                .map(Kind::Word)
-                .map_err(|_| UnknownItem),
-            5 => Operator::try_from(code)
-                .map(Kind::Operator)
-                .map_err(|_| UnknownItem),
-            6 => Ok(Kind::Body),
-            _ => Err(UnknownItem),
-        }
+        kind_of(item.record).ok_or(UnknownItem)
     }
 }
 

@@ -6,7 +6,7 @@ use commands::item::Kind;
 use journal::item::Item;
 use journal::listed::Listed;
 use journal::names::{kind_name, role_name};
-use journal::runs::{mark_of, of_one_mark};
+use journal::runs::{byte_of, mark_of, of_one_mark};
 use listing::record::Record;
 use std::fmt;
 use tokens::letter::Mark;
@@ -50,8 +50,8 @@ impl fmt::Display for JsonRun<'_> {
     fn fmt<W: fmt::Write>(&self, f: &mut fmt::Formatter<W>) -> fmt::Result {
         let mark = mark_name(mark_of(self.0).ok_or(fmt::Error)?);
         write!(f, "{{\"mark\":\"{mark}\",\"text\":\"")?;
-        for letter in self.0 {
-            let byte = JsonByte((letter % 256) as u8);
+        for number in self.0 {
+            let byte = JsonByte(byte_of(*number).ok_or(fmt::Error)?);
             write!(f, "{byte}")?;
         }
         f.write_str("\"}")

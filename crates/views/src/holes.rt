@@ -57,10 +57,10 @@ impl fmt::Display for Joined<'_> {
 impl fmt::Display for Holes {
     fn fmt<W: fmt::Write>(&self, f: &mut fmt::Formatter<W>) -> fmt::Result {
         let digits = self.digits();
-        match digits.as_slice() {
-            [] => f.write_str("no holes"),
-            [digit] => write!(f, "hole {digit}"),
-            [front @ .., last] => {
+        match (self.count(), digits.as_slice()) {
+            (0, _) | (_, []) => f.write_str("no holes"),
+            (1, [digit, ..]) => write!(f, "hole {digit}"),
+            (_, [front @ .., last]) => {
                 let front = Joined {
                     numbers: front,
                     by: ", ",
