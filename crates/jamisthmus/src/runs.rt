@@ -1,13 +1,13 @@
 // Calls of a journal, made on an order in runs. A run ends with a list, which wants a sheet of its own size.
-use crate::sheets::{cut, new_slots};
+use crate::sheets::{cut, new_slots, sheet_on};
 use journal::answers::{Answer, Records};
 use journal::call::Call;
 use journal::listed::Listed;
-use listing::record::Sheet;
 use orders::call::Call as OrderCall;
 use orders::desk::Desk;
 use orders::order::Order;
 use orders::outcome::{Done, Outcome};
+use orders::run::replay;
 use quoting::quoter::Quoter;
 use std::alloc::{AllocError, Global};
 use std::fmt::Write;
@@ -55,11 +55,27 @@ impl<'a> Run<'a> {
         })
     }
 
-    fn make<Q: Quoter>(&mut self, order: &mut Order<Q>) {
-        let mut sheet = Sheet::new(
-            self.listed.records.as_mut_slice(),
-            self.listed.letters.as_mut_slice(),
+    // Makes the calls on a new order.
+    fn begin<Q: Quoter>(&mut self, quoter: Q) -> Order<Q> {
+        let mut sheet = sheet_on(&mut self.listed);
+        let mut desk = Desk {
+            page: &mut [],
+            sheet: &mut sheet,
+        };
+        let order = replay(
+            quoter,
+            self.made.as_slice(),
+            &mut desk,
+            self.outcomes.as_mut_slice(),
         );
+        let used = sheet.counts;
+        cut(&mut self.listed, used);
+        order
+    }
+
+    // Makes the calls on an order that has made others.
+    fn go_on<Q: Quoter>(&mut self, order: &mut Order<Q>) {
+        let mut sheet = sheet_on(&mut self.listed);
         let mut desk = Desk {
             page: &mut [],
             sheet: &mut sheet,
@@ -73,8 +89,8 @@ impl<'a> Run<'a> {
         cut(&mut self.listed, used);
     }
 
-    // Writes an answer to each call.
-    fn tell(&self, answers: &mut String) -> Result<(), AllocError> {
+    // Writes an answer to each call. The run is let go, so that the next finds its slots free.
+    fn tell(self, answers: &mut String) -> Result<(), AllocError> {
         for (call, outcome) in self.calls.iter().zip(self.outcomes.iter()) {
             let name = call.name();
             if let Ok(Done::Listed(_)) = *outcome {
@@ -96,10 +112,13 @@ pub fn make_calls<Q: Quoter + Drop>(
     calls: &[Call],
     answers: &mut String,
 ) -> Result<(), AllocError> {
-    let mut order = Order::new(quoter);
-    for calls in calls.split_inclusive(|call| matches!(call, Call::List { .. })) {
+    let mut runs = calls.split_inclusive(|call| matches!(call, Call::List { .. }));
+    let mut run = Run::new(heap, runs.next().unwrap_or(&[]))?;
+    let mut order = run.begin(quoter);
+    run.tell(answers)?;
+    for calls in runs {
         let mut run = Run::new(heap, calls)?;
-        run.make(&mut order);
+        run.go_on(&mut order);
         run.tell(answers)?;
     }
     Ok(())

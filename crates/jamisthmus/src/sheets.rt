@@ -30,6 +30,11 @@ pub fn new_slots(heap: Global, records: usize, letters: usize) -> Result<Listed,
     })
 }
 
+// A sheet on these slots.
+pub fn sheet_on(slots: &mut Listed) -> Sheet<'_, '_> {
+    Sheet::new(slots.records.as_mut_slice(), slots.letters.as_mut_slice())
+}
+
 // Keeps only the slots that are used.
 pub fn cut(slots: &mut Listed, used: Counts) {
     slots.records.truncate(used.records);
@@ -39,7 +44,7 @@ pub fn cut(slots: &mut Listed, used: Counts) {
 // Lists a script on as many slots as it can use.
 pub fn list_script(heap: Global, script: &[u8], aliases: &AliasTable) -> Result<Listed, Unlisted> {
     let mut slots = new_slots(heap, MOST_RECORDS, MOST_LETTERS)?;
-    let mut sheet = Sheet::new(slots.records.as_mut_slice(), slots.letters.as_mut_slice());
+    let mut sheet = sheet_on(&mut slots);
     list(script, aliases, &mut sheet)?;
     let used = sheet.counts;
     cut(&mut slots, used);
