@@ -8,7 +8,7 @@ use std::alloc::{AllocError, Global};
 const MOST: usize = 8;
 
 // Aliases that stand for one another, for themselves, for assignments, for a reserved word and for a number.
-const ENTWINED: [(&str, &str); MOST] = [
+static ENTWINED: [(&str, &str); MOST] = [
     ("ls", "ls -l "),
     ("a", "b"),
     ("b", " x=1 a"),
@@ -29,7 +29,7 @@ fn define(aliases: &mut Vec<Alias>, name: Vec<u8>, value: Vec<u8>) -> Result<(),
 
 pub(crate) fn entwined(heap: Global) -> Result<Vec<Alias>, AllocError> {
     let mut all = Vec::new(heap);
-    for (name, value) in ENTWINED {
+    for (name, value) in &ENTWINED {
         let name = Vec::from_slice(heap, name.as_bytes())?;
         let value = Vec::from_slice(heap, value.as_bytes())?;
         define(&mut all, name, value)?;

@@ -129,7 +129,7 @@ impl<B: Beside> Run<B> {
 
     fn examples(&mut self) -> Result<(), AllocError> {
         self.under_entwined()?;
-        for text in EXAMPLES {
+        for text in &EXAMPLES {
             self.try_rooms(text.as_bytes())?;
             self.try_template(text.as_bytes())?;
         }

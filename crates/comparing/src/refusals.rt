@@ -7,7 +7,7 @@ use basics::refusal::Reason;
 use std::marker::Model;
 
 // All reasons, by their numbers.
-pub const REASONS: [Reason; 20] = [
+pub static REASONS: [Reason; 20] = [
     Reason::TooLong,
     Reason::ZeroByte,
     Reason::BadAlias,

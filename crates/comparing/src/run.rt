@@ -1,4 +1,6 @@
 // One text at a time: what the second reader makes of it, and after it the reader beside it.
+ghost use Rattle.std.specs.Prelude.{◌≡◌, vec_len};
+
 use super::alias_tables::{entwined, some};
 use super::beside::{Beside, Text};
 use super::families::Family;
@@ -37,7 +39,9 @@ pub struct Run<B> {
 }
 
 impl<B: Beside> Run<B> {
-    pub fn new(heap: Global, seed: u64, beside: B) -> Self {
+    pub fn new(heap: Global, seed: u64, beside: B) -> Self
+        ensures { (result.beside ≡ beside) × (vec_len result.aliases ≡ 0) × (result.filled ≡ 0) × (result.unlike ≡ 0) }
+    {
         Run {
             heap,
             scripts: Scripts::new(heap, seed),
@@ -56,7 +60,7 @@ impl<B: Beside> Run<B> {
             let tally = self.read_family(*family)?;
             println!(rt; "{family}: {tally}")?;
         }
-        for reason in REASONS {
+        for &reason in &REASONS {
             let times = self.refusals.times(reason);
             if times > 0 {
                 println!(rt; "refused {} {}: {times}", u8::from(reason), reason.words())?;
@@ -127,15 +131,16 @@ impl<B: Beside> Run<B> {
         Ok(())
     }
 
-    // One list of a script.
+    // One list of a script, which is counted as it came out.
     fn list(&mut self, script: &[u8], reading: &Reading, room: Room) -> Result<(), AllocError> {
-        self.count(reading, room.refusal(reading));
         let text = Text {
             bytes: script,
             aliases: self.aliases.as_slice(),
             reading,
         };
-        self.beside.list(&text, room, &mut self.scripts.random)
+        let refusal = self.beside.list(&text, room, &mut self.scripts.random)?;
+        self.count(reading, refusal);
+        Ok(())
     }
 
     fn count(&mut self, reading: &Reading, refusal: Option<Refusal>) {

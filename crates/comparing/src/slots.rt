@@ -1,13 +1,23 @@
 // The slots of a sheet, and what is to stand there after a list, by what the second reader read.
-ghost use Rattle.std.specs.Prelude.{◌≡◌, ◌<◌, true, false, vec_len, OnOk, IfOk, IsErr};
+ghost use Rattle.std.specs.Prelude.{◌≡◌, ◌<◌, ◌≤◌, ◌-◌, true, false, vec_len, OnOk, IfOk, IsErr};
 
 use super::room::Room;
 use basics::refusal::Refusal;
 use descent_lexer::item::{Item, Reading};
-use listing::list::NO_RECORD;
 use listing::record::{Counts, Record, Sheet};
 use random::Numbers;
 use std::alloc::{AllocError, Global};
+
+// What a list leaves in a free slot.
+// Stays: the product has the same constant; the comparison shares nothing with what it compares.
+const NO_RECORD: Record = Record {
+    kind: 0,
+    code: 0,
+    depth: 0,
+    first: 0,
+    count: 0,
+    place: 0,
+};
 
 // What a list says: how many records it added, or why it is refused.
 pub type Answer = Result<usize, Refusal>;
@@ -90,7 +100,8 @@ impl Slots {
     }
 
     fn room(&self) -> Room
-        ensures { is_good self.now ≡ false → result ≡ Room.Bad }
+        ensures free { is_good self.now ≡ true → result ≡ Room.Free (record { records = vec_len self.now.records - self.now.counts.records; letters = vec_len self.now.letters - self.now.counts.letters }) }
+        ensures bad { is_good self.now ≡ false → result ≡ Room.Bad }
     {
         if self.is_good() {
             Room::Free(Counts {
@@ -105,6 +116,7 @@ impl Slots {
     // What a list of this reading is to say, and to leave on these slots: all of its items or, where it is refused, none.
     pub fn receive(&mut self, reading: &Reading) -> Result<Answer, AllocError>
         ensures accepted { IfOk result (λ answer. IfOk answer (λ added. added ≡ vec_len reading.now.items)) }
+        ensures fits { is_good self.old ≡ true → IfOk result (λ answer. IfOk answer (λ added. self.old.counts.records + added ≤ vec_len self.old.records)) }
         ensures filled { is_good self.old ≡ true → IfOk result (λ answer. IsFilled self.old (given answer reading.now) self.new) }
 
         // A bad sheet is left as it is.

@@ -2,6 +2,9 @@
 // templates the second reader itself does not read as it reads their templates. Nothing here is compared with the product.
 #![tactic(auto)]
 
+ghost use Rattle.std.specs.Prelude.{false};
+
+use basics::refusal::Refusal;
 use comparing::beside::{Beside, Text};
 use comparing::families::{Family, Kind};
 use comparing::room::Room;
@@ -14,7 +17,7 @@ use std::io;
 // Any number will do; another gives other random texts, and other counts.
 const SEED: u64 = 20_261_117;
 
-const FAMILIES: [Family; 11] = [
+static FAMILIES: [Family; 11] = [
     Family::Rooms(3),
     Family::Strings(5),
     Family::Lists(6),
@@ -33,6 +36,8 @@ const FAMILIES: [Family; 11] = [
 struct Nobody;
 
 impl Beside for Nobody {
+    ghost all = { false };
+
     fn takes_all(&self) -> bool {
         false
     }
@@ -41,11 +46,11 @@ impl Beside for Nobody {
 
     fn list(
         &mut self,
-        _script: &Text,
-        _room: Room,
+        script: &Text,
+        room: Room,
         _random: &mut Random,
-    ) -> Result<(), AllocError> {
-        Ok(())
+    ) -> Result<Option<Refusal>, AllocError> {
+        Ok(room.refusal(script.reading))
     }
 
     fn check(&mut self, _template: &Text) -> Result<(), AllocError> {

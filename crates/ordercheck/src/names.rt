@@ -1,7 +1,7 @@
 // Names and values of aliases to draw from, besides those that scripts are made with.
 
 // Good names; with the names of the scripts' commands there are more than an order takes.
-pub const GOOD_NAMES: [&str; 9] = [
+pub static GOOD_NAMES: [&str; 9] = [
     "d",
     "_x",
     "9",
@@ -14,7 +14,7 @@ pub const GOOD_NAMES: [&str; 9] = [
 ];
 
 // Names that are not good ones, but for the last.
-pub const ODD_NAMES: [&str; 12] = [
+pub static ODD_NAMES: [&str; 12] = [
     "",
     "abcdefghijklmnopq",
     "a b",
@@ -30,7 +30,7 @@ pub const ODD_NAMES: [&str; 12] = [
 ];
 
 // Values that are not good ones, but for the last three.
-pub const ODD_VALUES: [&str; 18] = [
+pub static ODD_VALUES: [&str; 18] = [
     "",
     " ",
     "\t \t",
@@ -52,4 +52,4 @@ pub const ODD_VALUES: [&str; 18] = [
 ];
 
 // Behind a template: what begins as a hole does and is none.
-pub const BAD_HOLES: [&str; 5] = [" @{x}", " @{10}", " @{1", "@{", " @{@{1}}"];
+pub static BAD_HOLES: [&str; 5] = [" @{x}", " @{10}", " @{1", "@{", " @{@{1}}"];

@@ -15,7 +15,7 @@ use std::io;
 // Any number will do; another gives other random texts, and other counts.
 const SEED: u64 = 20_261_117;
 
-const FAMILIES: [Family; 12] = [
+static FAMILIES: [Family; 12] = [
     Family::Rooms(3),
     Family::Strings(4),
     Family::Lists(6),

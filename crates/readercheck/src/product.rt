@@ -1,7 +1,10 @@
 // The product's reader, beside the second one.
+ghost use Rattle.std.specs.Prelude.{true};
+
 use super::difference::{Difference, ReadAs, Verdict, verdict};
 use super::sheets::lay_out;
 use aliases::table::AliasTable;
+use basics::refusal::Refusal;
 use comparing::beside::{Beside, Text};
 use comparing::differences::Differences;
 use comparing::room::Room;
@@ -41,6 +44,8 @@ impl Product {
 }
 
 impl Beside for Product {
+    ghost all = { true };
+
     fn takes_all(&self) -> bool {
         true
     }
@@ -56,7 +61,12 @@ impl Beside for Product {
     }
 
     // Lists a script: the answer, the counts and every slot are to be as the second reader has them.
-    fn list(&mut self, script: &Text, room: Room, random: &mut Random) -> Result<(), AllocError> {
+    fn list(
+        &mut self,
+        script: &Text,
+        room: Room,
+        random: &mut Random,
+    ) -> Result<Option<Refusal>, AllocError> {
         let mut slots = lay_out(self.heap, random, room)?;
         let mut expected = slots.clone()?;
         let second = expected.receive(script.reading)?;
@@ -66,7 +76,7 @@ impl Beside for Product {
         if product != second || slots != expected {
             self.differ(ReadAs::Script, script, verdict(second), verdict(product))?;
         }
-        Ok(())
+        Ok(second.err())
     }
 
     // Has the product check a template: its holes, or its refusal, are to be the second reader's.

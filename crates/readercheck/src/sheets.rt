@@ -1,4 +1,7 @@
 // Sheets to list on, with anything in their slots, so that what is left or changed there shows.
+ghost use Rattle.std.specs.Prelude.{IfOk, ◌<◌};
+ghost use Rattle.readercheck.specs.Sheets.{IsLaidOut};
+
 use comparing::room::{Room, below, beyond, sum};
 use comparing::slots::Slots;
 use listing::record::Counts;
@@ -11,7 +14,10 @@ const FEW: Counts = Counts {
 };
 
 // How many slots are used before a list: mostly none.
-fn some_used(random: &mut Random) -> Counts {
+fn some_used(random: &mut Random) -> Counts
+    ensures records { result.records < 4 }
+    ensures letters { result.letters < 4 }
+{
     if random.once_in(4) {
         below(random, FEW)
     } else {
@@ -20,7 +26,9 @@ fn some_used(random: &mut Random) -> Counts {
 }
 
 // A good sheet with these free slots, behind used ones at times, or a bad one.
-pub fn lay_out(heap: Global, random: &mut Random, room: Room) -> Result<Slots, AllocError> {
+pub fn lay_out(heap: Global, random: &mut Random, room: Room) -> Result<Slots, AllocError>
+    ensures { IfOk result (IsLaidOut room) }
+{
     let (counts, all) = match room {
         Room::Free(free) => {
             let used = some_used(random);
