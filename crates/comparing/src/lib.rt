@@ -2,6 +2,8 @@
 // sheet as they are to be left; and the first few differences.
 #![tactic(auto)]
 
+ghost use Rattle.std.specs.Prelude.{false};
+
 mod alias_tables;
 pub mod beside;
 pub mod differences;
@@ -15,8 +17,6 @@ mod tally;
 
 #[cfg(test)]
 mod tests {
-    ghost use Rattle.std.specs.Prelude.{false};
-
     use crate::beside::{Beside, Text};
     use crate::differences::Differences;
     use crate::families::Family;
